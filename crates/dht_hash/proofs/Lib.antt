@@ -1,0 +1,3 @@
+pub mod Cycles
+pub mod Words
+pub mod Blocks
