@@ -1,0 +1,7 @@
+pub mod PutLaws
+pub mod StoryLaws
+pub mod HexLemmas
+pub mod TextLemmas
+pub mod NameLemmas
+pub mod EntryLemmas
+pub mod VolumeLemmas

@@ -1,0 +1,11 @@
+pub mod Errno
+pub mod Gfid
+pub mod Name
+pub mod Padded
+pub mod Put
+pub mod Story
+pub mod Tree
+pub mod Text
+pub mod Cost
+pub mod Entry
+pub mod Volume
