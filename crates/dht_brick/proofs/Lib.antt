@@ -1,0 +1,4 @@
+pub mod ListLemmas
+pub mod LockLemmas
+pub mod ResultLemmas
+pub mod TableLemmas

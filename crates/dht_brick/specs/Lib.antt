@@ -1,0 +1,5 @@
+pub mod Contents
+pub mod Dump
+pub mod Kinds
+pub mod Plain
+pub mod Rows
