@@ -1,0 +1,6 @@
+pub mod HexLemmas
+pub mod LineLemmas
+pub mod NameLemmas
+pub mod NumberLemmas
+pub mod PrintLemmas
+pub mod WordLemmas

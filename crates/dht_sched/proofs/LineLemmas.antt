@@ -1,0 +1,193 @@
+-- The lines of events: what is read is what was spelled, and a line is of one event.
+use Rattle.std.proofs.Common.{◌≡◌, ◌≢◌, ℕ, ◌*◌, ◌≤◌, ◌<◌, ◌^◌, true, false, leb, List, [], ◌∷◌, ◌++◌, inl, inr, length, map, decimal, codes, All, refl, sym, ap, subst, ◌∙◌, arith, lit<, get_or, Bor}
+use Rattle.std.specs.Prelude.{Option, Some, None, is_some, MatchOption, Result, Ok, Err, IfOk, IsErrOf}
+use Rattle.std.specs.List.{AllByRecursion}
+use Rattle.std.proofs.lemmas.Bool.{le-leb, false≢true}
+use Rattle.std.proofs.lemmas.Fmt.{decimal_injective, decimal_is_IsNumeral, length-decimal-le}
+use Rattle.std.proofs.lemmas.List.Elements.{recursion_from_All, All-from_get_or}
+use Rattle.std.proofs.lemmas.List.Sums.{list_all-from_AllPass}
+use Rattle.std.proofs.lemmas.Str.Parse.{digit_at}
+use Rattle.dht_types.specs.Gfid.{root}
+use Rattle.dht_types.specs.declared.identifiers.Gfid.{Gfid}
+use Rattle.dht_types.specs.declared.calls.Call.TheVariants.{Lookup, Create}
+use Rattle.dht_types.specs.declared.events.Event.{Event}
+use Rattle.dht_types.specs.declared.events.Event.TheVariants.{Volume, Call as Called, Step}
+use Rattle.dht_sched.specs.declared.fault.LineFault.{LineFault}
+use Rattle.dht_sched.specs.declared.fault.LineFault.TheVariants.{Malformed, OutOfMemory}
+use Rattle.dht_sched.specs.Reading.{ReadsUnless}
+use Rattle.dht_sched.specs.Schedule.{directory_word, schedule_words, schedule_text, IsScheduled, IsReadOf, IsScheduledVolume, IsFileName, IsOneLine, HasOneWeight}
+use Rattle.dht_sched.specs.Spelling.{spaced, spelled, words_of}
+use Rattle.dht_sched.proofs.NameLemmas.{file_text, file_bytes, same_name, text_word, length-bytes_text-le}
+use Rattle.dht_sched.proofs.WordLemmas.{IsWord, words_of-spaced, spaced-words_of, no_newline, room, length-spaced-le}
+
+abbrev IsLight : ℕ → Type 0
+IsLight w = w ≤ 1000
+
+-- where a word is no weight, the words are no weights
+pub no_weights : (taken : List ℕ) (word : List ℕ) (rest : List (List ℕ)) → ((w : ℕ) → w ≤ 1000 → decimal w ≢ word) → (ws : List ℕ) → AllByRecursion IsLight ws → map decimal ws ≢ map decimal taken ++ word ∷ rest
+no_weights [] word rest none [] light same = cc same
+no_weights [] word rest none (w ∷ ws) light same = none w light.0 (cc same)
+no_weights (t ∷ taken) word rest none [] light same = cc same
+no_weights (t ∷ taken) word rest none (w ∷ ws) light same = no_weights taken word rest none ws light.1 (cc same)
+
+-- words are of one list of weights
+pub same_weights : (v w : List ℕ) → AllByRecursion IsLight v → AllByRecursion IsLight w → map decimal v ≡ map decimal w → v ≡ w
+same_weights [] [] hv hw same = refl
+same_weights [] (y ∷ w) hv hw same = absurd (cc same)
+same_weights (x ∷ v) [] hv hw same = absurd (cc same)
+same_weights (x ∷ v) (y ∷ w) hv hw same =
+    let head : x ≡ y = decimal_injective x y (let a = hv.0 in omega arith) (let b = hw.0 in omega arith) (cc same) in
+    let tail : v ≡ w = same_weights v w hv.1 hw.1 (cc same) in
+    cc (head, tail)
+
+-- ---- the words of an event
+
+decimal_word : (n : ℕ) → n ≤ 1000 → IsWord (decimal n)
+decimal_word n light =
+    let digits = (decimal_is_IsNumeral n (omega arith)).0.1 in
+    list_all-from_AllPass (λ b. leb 33 b) (decimal n) (All-from_get_or (λ b. leb 33 b ≡ true) (decimal n) 0 (λ i lt. let digit = digit_at (decimal n) i digits lt in le-leb 33 _ (omega arith)))
+
+length-decimal : (n : ℕ) → n ≤ 1000 → length (decimal n) ≤ 4
+length-decimal n light = length-decimal-le 4 n (lit< tt) (omega arith) (omega arith)
+
+weight_words : (w : List ℕ) → AllByRecursion IsLight w → AllByRecursion IsWord (map decimal w)
+weight_words [] light = tt
+weight_words (x ∷ w) light = (decimal_word x light.0, weight_words w light.1)
+
+root_word : (d : Gfid) → d ≡ root → IsWord (directory_word d)
+root_word d e = subst (λ (g : Gfid). IsWord (directory_word g)) (sym e) refl
+
+name_word : (n : List ℕ) → IsFileName n → IsWord (spelled n)
+name_word n h = let text = file_text n h in rw text (text_word n (file_bytes n h))
+
+call_words_are : (c : ℕ) (verb : List ℕ) (d : Gfid) (n : List ℕ) → IsWord verb → c ≡ 0 → (d ≡ root) × IsFileName n → AllByRecursion IsWord (codes "call" ∷ decimal c ∷ verb ∷ directory_word d ∷ spelled n ∷ [])
+call_words_are c verb d n v zero call = (refl, (decimal_word c (omega arith), (v, (root_word d call.0, (name_word n call.1, tt)))))
+
+step_words_are : (c : ℕ) → c ≡ 0 → AllByRecursion IsWord (codes "step" ∷ decimal c ∷ [])
+step_words_are c zero = (refl, (decimal_word c (omega arith), tt))
+
+volume_words_are : (w : List ℕ) → IsScheduledVolume w → AllByRecursion IsWord (codes "volume" ∷ decimal (length w) ∷ map decimal w)
+volume_words_are w h = let few = h.few in (refl, (decimal_word (length w) (omega arith), weight_words w (recursion_from_All IsLight w h.light)))
+
+-- a line has the words of its event
+pub words_of_text : (e : Event) → IsScheduled e → words_of (schedule_text e) ≡ schedule_words e
+words_of_text (Volume w) h = words_of-spaced (codes "volume") (decimal (length w) ∷ map decimal w) (volume_words_are w h)
+words_of_text (Called c (Lookup d n)) h = words_of-spaced (codes "call") (decimal c ∷ codes "lookup" ∷ directory_word d ∷ spelled n ∷ []) (call_words_are c (codes "lookup") d n refl h.0 h.1)
+words_of_text (Called c (Create d n)) h = words_of-spaced (codes "call") (decimal c ∷ codes "create" ∷ directory_word d ∷ spelled n ∷ []) (call_words_are c (codes "create") d n refl h.0 h.1)
+words_of_text (Step c) h = words_of-spaced (codes "step") (decimal c ∷ []) (step_words_are c h)
+
+-- ---- a line is one line
+
+length-weights : (w : List ℕ) → AllByRecursion IsLight w → room (map decimal w) ≤ 5 * length w
+length-weights [] light = omega arith
+length-weights (x ∷ w) light = let first = length-decimal x light.0 in let others = length-weights w light.1 in omega arith
+
+root_length : (d : Gfid) → d ≡ root → length (directory_word d) ≡ 1
+root_length d e = subst (λ (g : Gfid). length (directory_word g) ≡ 1) (sym e) refl
+
+name_length : (n : List ℕ) → IsFileName n → length (spelled n) ≤ 765
+name_length n h = let text = file_text n h in let short = h.name.short in let size = length-bytes_text-le n in rw text (omega arith)
+
+one_line_of : (words : List (List ℕ)) → AllByRecursion IsWord words → room words < 16384 → IsOneLine (spaced words)
+one_line_of words h few = record { one = no_newline words h; short = (let size = length-spaced-le words in omega arith) }
+
+call_line : (c : ℕ) (verb : List ℕ) (d : Gfid) (n : List ℕ) → IsWord verb → length verb ≡ 6 → c ≡ 0 → (d ≡ root) × IsFileName n → IsOneLine (spaced (codes "call" ∷ decimal c ∷ verb ∷ directory_word d ∷ spelled n ∷ []))
+call_line c verb d n v six zero call =
+    let client = length-decimal c (omega arith) in
+    let directory = root_length d call.0 in
+    let name = name_length n call.1 in
+    one_line_of (codes "call" ∷ decimal c ∷ verb ∷ directory_word d ∷ spelled n ∷ []) (call_words_are c verb d n v zero call) (omega arith)
+
+pub event_line : (e : Event) → IsScheduled e → IsOneLine (schedule_text e)
+event_line (Volume w) h =
+    let few = h.few in
+    let bricks = length-decimal (length w) (omega arith) in
+    let weights = length-weights w (recursion_from_All IsLight w h.light) in
+    one_line_of (codes "volume" ∷ decimal (length w) ∷ map decimal w) (volume_words_are w h) (omega arith)
+event_line (Called c (Lookup d n)) h = call_line c (codes "lookup") d n refl refl h.0 h.1
+event_line (Called c (Create d n)) h = call_line c (codes "create") d n refl refl h.0 h.1
+event_line (Step c) h = let client = length-decimal c (omega arith) in one_line_of (codes "step" ∷ decimal c ∷ []) (step_words_are c h) (omega arith)
+
+-- ---- a line is of one event
+
+-- the first letter of the first word, and of the third
+abbrev kind : List (List ℕ) → ℕ
+kind [] = 0
+kind (word ∷ words) = get_or word 0 0
+
+abbrev verb : List (List ℕ) → ℕ
+verb [] = 0
+verb (word ∷ []) = 0
+verb (word ∷ client ∷ words) = kind words
+
+same_call : (c1 : ℕ) (d1 : Gfid) (n1 : List ℕ) (c2 : ℕ) (d2 : Gfid) (n2 : List ℕ) → c1 ≡ 0 → (d1 ≡ root) × IsFileName n1 → c2 ≡ 0 → (d2 ≡ root) × IsFileName n2 → spelled n1 ≡ spelled n2 → (c1 ≡ c2) × (d1 ≡ d2) × (n1 ≡ n2)
+same_call c1 d1 n1 c2 d2 n2 z1 h1 z2 h2 same = (z1 ∙ sym z2, h1.0 ∙ sym h2.0, same_name n1 n2 h1.1 h2.1 same)
+
+pub same_event : (a b : Event) → IsScheduled a → IsScheduled b → schedule_words a ≡ schedule_words b → a ≡ b
+same_event (Volume v) (Volume w) ha hb same = ap Volume (same_weights v w (recursion_from_All IsLight v ha.light) (recursion_from_All IsLight w hb.light) (cc same))
+same_event (Volume v) (Called c call) ha hb same = absurd (let letters : 118 ≡ 99 = ap kind same in omega arith)
+same_event (Volume v) (Step c) ha hb same = absurd (let letters : 118 ≡ 115 = ap kind same in omega arith)
+same_event (Called b call) (Volume w) ha hb same = absurd (let letters : 99 ≡ 118 = ap kind same in omega arith)
+same_event (Called b (Lookup d m)) (Called c (Lookup e n)) ha hb same = let p = same_call b d m c e n ha.0 ha.1 hb.0 hb.1 (cc same) in let same_client = p.0 in let same_directory = p.1 in let same_file = p.2 in cc
+same_event (Called b (Lookup d m)) (Called c (Create e n)) ha hb same = absurd (let letters : 108 ≡ 99 = ap verb same in omega arith)
+same_event (Called b (Create d m)) (Called c (Lookup e n)) ha hb same = absurd (let letters : 99 ≡ 108 = ap verb same in omega arith)
+same_event (Called b (Create d m)) (Called c (Create e n)) ha hb same = let p = same_call b d m c e n ha.0 ha.1 hb.0 hb.1 (cc same) in let same_client = p.0 in let same_directory = p.1 in let same_file = p.2 in cc
+same_event (Called b call) (Step c) ha hb same = absurd (let letters : 99 ≡ 115 = ap kind same in omega arith)
+same_event (Step b) (Volume w) ha hb same = absurd (let letters : 115 ≡ 118 = ap kind same in omega arith)
+same_event (Step b) (Called c call) ha hb same = absurd (let letters : 115 ≡ 99 = ap kind same in omega arith)
+same_event (Step b) (Step c) ha hb same = ap Step (ha ∙ sym hb)
+
+-- ---- what a line's words tell
+
+-- a line's words are those of an event just where the line is its text
+line_words : (line : List ℕ) (e : Event) → IsScheduled e → line ≡ schedule_text e → schedule_words e ≡ words_of line
+line_words line e h same = sym (words_of_text e h) ∙ ap words_of (sym same)
+
+pub read_text : (line : List ℕ) (r : Result Event LineFault) → ReadsUnless schedule_words IsScheduled (words_of line) r → IfOk r (λ e. line ≡ schedule_text e)
+read_text line (Ok e) h = sym (spaced-words_of line) ∙ ap spaced (sym h.1)
+read_text line (Err f) h = tt
+
+pub read_malformed : (line : List ℕ) (r : Result Event LineFault) → ReadsUnless schedule_words IsScheduled (words_of line) r → IsErrOf r Malformed → (e : Event) → IsScheduled e → line ≢ schedule_text e
+read_malformed line r h bad e fits same =
+    let none = subst (λ (x : Result Event LineFault). ReadsUnless schedule_words IsScheduled (words_of line) x) bad h in
+    none e fits (line_words line e fits same)
+
+out_of_memory : (e : Event) (rest : List (List ℕ)) → schedule_words e ≡ codes "volume" ∷ rest → IsReadOf e (Err OutOfMemory)
+out_of_memory (Volume w) rest same = inr refl
+out_of_memory (Called c call) rest same = absurd (let letters : 99 ≡ 118 = ap kind same in omega arith)
+out_of_memory (Step c) rest same = absurd (let letters : 115 ≡ 118 = ap kind same in omega arith)
+
+is_read : (e : Event) → IsReadOf e (Ok e)
+is_read (Volume w) = inl refl
+is_read (Called c call) = refl
+is_read (Step c) = refl
+
+pub read_only : (line : List ℕ) (r : Result Event LineFault) → ReadsUnless schedule_words IsScheduled (words_of line) r → (IsErrOf r OutOfMemory → (rest : List (List ℕ)) × (words_of line ≡ codes "volume" ∷ rest)) → (e : Event) → IsScheduled e → line ≡ schedule_text e → IsReadOf e r
+read_only line (Ok f) h memory e fits same =
+    let f_is : e ≡ f = same_event e f fits h.0 (line_words line e fits same ∙ sym h.1) in
+    subst (λ (x : Event). IsReadOf e (Ok x)) f_is (is_read e)
+read_only line (Err Malformed) h memory e fits same = absurd (h e fits (line_words line e fits same))
+read_only line (Err OutOfMemory) h memory e fits same = let m = memory refl in out_of_memory e m.0 (line_words line e fits same ∙ m.1)
+
+-- ---- the parts of lines
+
+-- the words of a call
+pub four_words : (words r1 r2 r3 r4 : List (List ℕ)) (w1 w2 w3 w4 x1 x2 x3 x4 : List ℕ) → words ≡ w1 ∷ r1 → r1 ≡ w2 ∷ r2 → r2 ≡ w3 ∷ r3 → r3 ≡ w4 ∷ r4 → r4 ≡ [] → x1 ≡ w1 → w2 ≡ x2 → x3 ≡ w3 → x4 ≡ w4
+    → codes "call" ∷ x1 ∷ x2 ∷ x3 ∷ x4 ∷ [] ≡ codes "call" ∷ words
+four_words words r1 r2 r3 r4 w1 w2 w3 w4 x1 x2 x3 x4 e1 e2 e3 e4 e5 f1 f2 f3 f4 = cc
+
+-- where no item came, none was left
+pub none_left : (words rest : List (List ℕ)) (o : Option (Bor (List ℕ))) → MatchOption o ((words ≡ []) × (rest ≡ [])) (λ x. words ≡ x.now ∷ rest) → is_some o ≡ false → words ≡ []
+none_left words rest None h e = h.0
+none_left words rest (Some x) h e = absurd (false≢true (sym e))
+
+-- weights that are none of a volume
+pub no_volume : (words others : List (List ℕ)) (bricks : ℕ) (word : List ℕ) (w : List ℕ) → words ≡ word ∷ others → bricks < 2 ^ 64 → decimal bricks ≡ word → All IsLight w → map decimal w ≡ others
+    → (bricks ≡ length w → (1 ≤ length w) × (length w ≤ 32) × HasOneWeight w → ⊥) → (e : Event) → IsScheduled e → schedule_words e ≢ codes "volume" ∷ words
+no_volume words others bricks word w e small text light weights none (Volume v) h same =
+    let few = h.few in
+    let v_is : v ≡ w = same_weights v w (recursion_from_All IsLight v h.light) (recursion_from_All IsLight w light) (cc (same, e, weights)) in
+    let size : length v ≡ bricks = decimal_injective (length v) bricks (omega arith) small (cc (same, e, text)) in
+    none (sym size ∙ ap length v_is) (subst (λ (x : List ℕ). (1 ≤ length x) × (length x ≤ 32) × HasOneWeight x) v_is (h.some, few, h.one))
+no_volume words others bricks word w e small text light weights none (Called c call) h same = absurd (let letters : 99 ≡ 118 = ap kind same in omega arith)
+no_volume words others bricks word w e small text light weights none (Step c) h same = absurd (let letters : 115 ≡ 118 = ap kind same in omega arith)

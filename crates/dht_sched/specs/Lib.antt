@@ -1,0 +1,5 @@
+pub mod Spelling
+pub mod Reading
+pub mod Schedule
+pub mod Transcript
+pub mod Printing

@@ -1,0 +1,105 @@
+-- The lines of a transcript, each with its newline.
+use Rattle.std.specs.Prelude.{ℕ, Option, Some, None, List, [], ◌∷◌, ◌++◌, length, map, codes, decimal}
+use Rattle.std.specs.List.{flat_map}
+use Rattle.dht_types.specs.Errno.{errno_word}
+use Rattle.dht_types.specs.Text.{gfid_text, hex_bytes}
+use Rattle.dht_types.specs.declared.calls.Call.{Call}
+use Rattle.dht_types.specs.declared.calls.Call.TheVariants.{Lookup, Create}
+use Rattle.dht_types.specs.declared.calls.Answer.{Answer}
+use Rattle.dht_types.specs.declared.calls.Answer.TheVariants.{File, Made, Fault}
+use Rattle.dht_types.specs.declared.calls.TreeStep.{TreeStep}
+use Rattle.dht_types.specs.declared.calls.TreeStep.TheVariants.{AddFile}
+use Rattle.dht_types.specs.declared.lines.RequestKind.{RequestKind}
+use Rattle.dht_types.specs.declared.lines.RequestKind.TheVariants as request
+use Rattle.dht_types.specs.declared.lines.Refusal.TheVariants.{Nodir, Slot}
+use Rattle.dht_types.specs.declared.lines.ReplyKind.{ReplyKind}
+use Rattle.dht_types.specs.declared.lines.ReplyKind.TheVariants as reply
+use Rattle.dht_types.specs.declared.lines.Cause.{Cause}
+use Rattle.dht_types.specs.declared.lines.Cause.TheVariants.{Busy, Idle}
+use Rattle.dht_types.specs.declared.lines.LayoutValue.{LayoutValue}
+use Rattle.dht_types.specs.declared.lines.Line.{Line}
+use Rattle.dht_types.specs.declared.lines.Line.TheVariants.{Volume, Called, Stepped, Tree, Answered, Refused}
+use Rattle.dht_types.specs.declared.lines.DumpLine.{DumpLine}
+use Rattle.dht_types.specs.declared.lines.DumpLine.TheVariants as dump
+use Rattle.dht_sched.specs.Spelling.{spaced, spelled}
+
+-- the line of these words
+abbrev pub text_of : List (List ℕ) → List ℕ
+text_of words = spaced words ++ 10 ∷ []
+
+abbrev pub called_words : Call → List (List ℕ)
+called_words (Lookup d n) = codes "lookup" ∷ gfid_text d ∷ spelled n ∷ []
+called_words (Create d n) = codes "create" ∷ gfid_text d ∷ spelled n ∷ []
+
+abbrev pub request_word : RequestKind → List ℕ
+request_word request.Lock = codes "lock"
+request_word request.Unlock = codes "unlock"
+request_word request.Look = codes "look"
+request_word request.Dirinfo = codes "dirinfo"
+request_word request.Create = codes "create"
+
+abbrev pub reply_word : ReplyKind → List ℕ
+reply_word reply.Ok = codes "ok"
+reply_word (reply.Refused Nodir) = codes "refused:nodir"
+reply_word (reply.Refused Slot) = codes "refused:slot"
+reply_word reply.NoMemory = codes "nomem"
+
+abbrev pub tree_words : TreeStep → List (List ℕ)
+tree_words (AddFile d n f) = codes "add-file" ∷ gfid_text d ∷ spelled n ∷ gfid_text f ∷ []
+
+-- the point of an answer, where it has one
+abbrev pub point_words : Option ℕ → List (List ℕ)
+point_words None = []
+point_words (Some line) = codes "at" ∷ decimal line ∷ []
+
+abbrev pub answer_words : Answer → List (List ℕ)
+answer_words (File f) = codes "file" ∷ gfid_text f ∷ []
+answer_words (Made f) = codes "made" ∷ gfid_text f ∷ []
+answer_words (Fault error) = errno_word error ∷ []
+
+abbrev pub cause_word : Cause → List ℕ
+cause_word Busy = codes "busy"
+cause_word Idle = codes "idle"
+
+abbrev pub line_words : Line → List (List ℕ)
+line_words (Volume w) = codes "volume" ∷ decimal (length w) ∷ map decimal w
+line_words (Called k c call) = codes "call" ∷ decimal k.0 ∷ decimal c.0 ∷ called_words call
+line_words (Stepped k c b q r) = codes "step" ∷ decimal k.0 ∷ decimal c.0 ∷ decimal b.0 ∷ request_word q ∷ reply_word r ∷ []
+line_words (Tree k step) = codes "tree" ∷ decimal k.0 ∷ tree_words step
+line_words (Answered k c point a) = codes "answer" ∷ decimal k.0 ∷ decimal c.0 ∷ (point_words point ++ answer_words a)
+line_words (Refused n cause) = codes "refused" ∷ decimal n ∷ cause_word cause ∷ []
+
+unfoldable pub line_text : Line → List ℕ
+line_text line = text_of (line_words line)
+
+unfoldable pub lines_text : List Line → List ℕ
+lines_text lines = flat_map line_text lines
+
+-- ---- what the bricks contain
+
+abbrev pub layout_word : Option LayoutValue → List ℕ
+layout_word None = codes "-"
+layout_word (Some value) = hex_bytes value.0
+
+abbrev pub dump_words : DumpLine → List (List ℕ)
+dump_words (dump.Brick b) = codes "brick" ∷ decimal b.0 ∷ codes "up" ∷ []
+dump_words (dump.Dir b g value) = codes "dir" ∷ decimal b.0 ∷ gfid_text g ∷ layout_word value ∷ []
+dump_words (dump.Slot b d n f) = codes "slot" ∷ decimal b.0 ∷ gfid_text d ∷ spelled n ∷ codes "data" ∷ gfid_text f ∷ codes "-" ∷ []
+dump_words (dump.File b f hop links size digest) = codes "file" ∷ decimal b.0 ∷ gfid_text f ∷ codes "live" ∷ decimal hop ∷ decimal links ∷ decimal size ∷ hex_bytes digest ∷ []
+dump_words dump.End = codes "end" ∷ []
+
+unfoldable pub dump_text : DumpLine → List ℕ
+dump_text line = text_of (dump_words line)
+
+unfoldable pub dump_lines_text : List DumpLine → List ℕ
+dump_lines_text lines = flat_map dump_text lines
+
+-- ---- the last line of a run that ends early
+
+-- the schedule's line of this number is malformed
+unfoldable pub malformed_text : ℕ → List ℕ
+malformed_text n = text_of (codes "malformed" ∷ decimal n ∷ [])
+
+-- what the program can be asked for
+unfoldable pub usage_text : List ℕ
+usage_text = codes "usage: dhtvol replay, serve, hash, layout, bulk" ++ 10 ∷ []

@@ -1,0 +1,251 @@
+//! The lines of transcripts and of dumps, printed.
+
+ghost use Rattle.std.specs.Prelude.{◌≡◌, ◌++◌, ◌∷◌, [], List, OnOk, OnErr};
+ghost use Rattle.dht_sched.specs.Transcript.{request_word, reply_word, cause_word, line_text, lines_text, dump_text, dump_lines_text, malformed_text, usage_text};
+ghost use Rattle.dht_types.specs.declared.lines.Line.{Line};
+ghost use Rattle.dht_types.specs.declared.lines.DumpLine.{DumpLine};
+ghost use Rattle.dht_types.specs.declared.lines.Line.TheVariants.{Called, Stepped, Tree, Answered};
+
+use crate::fields::{Field, print_fields};
+use dht_types::calls::{Answer, Call, TreeStep};
+use dht_types::errors::errno_word;
+use dht_types::identifiers::{BrickNo, CallNo, ClientNo};
+use dht_types::lines::{Cause, DumpLine, Line, Refusal, ReplyKind, RequestKind};
+use std::alloc::AllocError;
+
+fn request_word(kind: RequestKind) -> &'static str
+    ensures { result.now ≡ request_word kind }
+{
+    match kind {
+        RequestKind::Lock => "lock",
+        RequestKind::Unlock => "unlock",
+        RequestKind::Look => "look",
+        RequestKind::Dirinfo => "dirinfo",
+        RequestKind::Create => "create",
+    }
+}
+
+fn reply_word(reply: ReplyKind) -> &'static str
+    ensures { result.now ≡ reply_word reply }
+{
+    match reply {
+        ReplyKind::Ok => "ok",
+        ReplyKind::Refused(Refusal::Nodir) => "refused:nodir",
+        ReplyKind::Refused(Refusal::Slot) => "refused:slot",
+        ReplyKind::NoMemory => "nomem",
+    }
+}
+
+fn cause_word(cause: Cause) -> &'static str
+    ensures { result.now ≡ cause_word cause }
+{
+    match cause {
+        Cause::Busy => "busy",
+        Cause::Idle => "idle",
+    }
+}
+
+/// A call was accepted.
+#[tactic(auto, unfolding(crate::specs::Transcript::line_text))]
+fn print_call(
+    out: &mut Vec<u8>,
+    number: CallNo,
+    client: ClientNo,
+    call: &Call,
+) -> Result<(), AllocError>
+    ensures ok { OnOk result (out.new.items ≡ out.old.items ++ line_text (Called number client call.now)) }
+    ensures err { OnErr result (out.new.items ≡ out.old.items) }
+{
+    let number = Field::Number(number.0);
+    let client = Field::Number(u64::from(client.0));
+    let (verb, directory, name) = match call {
+        Call::Lookup(directory, name) => ("lookup", directory, name),
+        Call::Create(directory, name) => ("create", directory, name),
+    };
+    let verb = Field::Word(verb);
+    let directory = Field::Gfid(*directory);
+    print_fields(
+        out,
+        "call",
+        &[number, client, verb, directory, Field::Name(name)],
+    )
+}
+
+/// A brick served a request.
+#[tactic(auto, unfolding(crate::specs::Transcript::line_text))]
+fn print_step(
+    out: &mut Vec<u8>,
+    number: CallNo,
+    client: ClientNo,
+    brick: BrickNo,
+    kind: RequestKind,
+    reply: ReplyKind,
+) -> Result<(), AllocError>
+    ensures ok { OnOk result (out.new.items ≡ out.old.items ++ line_text (Stepped number client brick kind reply)) }
+    ensures err { OnErr result (out.new.items ≡ out.old.items) }
+{
+    let number = Field::Number(number.0);
+    let client = Field::Number(u64::from(client.0));
+    let brick = Field::Number(u64::from(brick.0));
+    let kind = Field::Word(request_word(kind));
+    let reply = Field::Word(reply_word(reply));
+    print_fields(out, "step", &[number, client, brick, kind, reply])
+}
+
+/// The tree changed.
+#[tactic(auto, unfolding(crate::specs::Transcript::line_text))]
+fn print_tree(out: &mut Vec<u8>, number: CallNo, step: &TreeStep) -> Result<(), AllocError>
+    ensures ok { OnOk result (out.new.items ≡ out.old.items ++ line_text (Tree number step.now)) }
+    ensures err { OnErr result (out.new.items ≡ out.old.items) }
+{
+    let number = Field::Number(number.0);
+    match step {
+        TreeStep::AddFile(directory, name, file) => {
+            let directory = Field::Gfid(*directory);
+            let name = Field::Name(name);
+            let file = Field::Gfid(*file);
+            print_fields(
+                out,
+                "tree",
+                &[number, Field::Word("add-file"), directory, name, file],
+            )
+        }
+    }
+}
+
+/// A call answered.
+#[tactic(auto, unfolding(crate::specs::Transcript::line_text))]
+fn print_answer(
+    out: &mut Vec<u8>,
+    number: CallNo,
+    client: ClientNo,
+    point: Option<u64>,
+    answer: Answer,
+) -> Result<(), AllocError>
+    ensures ok { OnOk result (out.new.items ≡ out.old.items ++ line_text (Answered number client point answer)) }
+    ensures err { OnErr result (out.new.items ≡ out.old.items) }
+{
+    let number = Field::Number(number.0);
+    let client = Field::Number(u64::from(client.0));
+    let point = Field::Point(point);
+    match answer {
+        Answer::File(file) => {
+            let words = [
+                number,
+                client,
+                point,
+                Field::Word("file"),
+                Field::Gfid(file),
+            ];
+            print_fields(out, "answer", &words)
+        }
+        Answer::Made(file) => {
+            let words = [
+                number,
+                client,
+                point,
+                Field::Word("made"),
+                Field::Gfid(file),
+            ];
+            print_fields(out, "answer", &words)
+        }
+        Answer::Fault(error) => {
+            let error = Field::Word(errno_word(error));
+            print_fields(out, "answer", &[number, client, point, error])
+        }
+    }
+}
+
+/// Appends the line of an event to `out`, with its newline. Where memory runs out, `out` stays as it
+/// was.
+#[tactic(auto, unfolding(crate::specs::Transcript::line_text))]
+pub fn print_line(line: &Line, out: &mut Vec<u8>) -> Result<(), AllocError>
+    ensures ok { OnOk result (out.new.items ≡ out.old.items ++ line_text line.now) }
+    ensures err { OnErr result (out.new.items ≡ out.old.items) }
+{
+    match line {
+        Line::Volume(weights) => {
+            let weights = weights.as_slice();
+            let bricks = Field::Number(weights.len() as u64);
+            print_fields(out, "volume", &[bricks, Field::Numbers(weights)])
+        }
+        Line::Called(number, client, call) => print_call(out, *number, *client, call),
+        Line::Stepped(number, client, brick, kind, reply) => {
+            print_step(out, *number, *client, *brick, *kind, *reply)
+        }
+        Line::Tree(number, step) => print_tree(out, *number, step),
+        Line::Answered(number, client, point, answer) => {
+            print_answer(out, *number, *client, *point, *answer)
+        }
+        Line::Refused(number, cause) => {
+            let cause = Field::Word(cause_word(*cause));
+            print_fields(out, "refused", &[Field::Number(*number), cause])
+        }
+    }
+}
+
+/// Appends a line of what the bricks contain to `out`, with its newline. Where memory runs out, `out`
+/// stays as it was.
+#[tactic(auto, unfolding(crate::specs::Transcript::dump_text))]
+pub fn print_dump_line(line: &DumpLine, out: &mut Vec<u8>) -> Result<(), AllocError>
+    ensures ok { OnOk result (out.new.items ≡ out.old.items ++ dump_text line.now) }
+    ensures err { OnErr result (out.new.items ≡ out.old.items) }
+{
+    match line {
+        DumpLine::Brick(brick) => {
+            let brick = Field::Number(u64::from(brick.0));
+            print_fields(out, "brick", &[brick, Field::Word("up")])
+        }
+        DumpLine::Dir(brick, directory, layout) => {
+            let brick = Field::Number(u64::from(brick.0));
+            let directory = Field::Gfid(*directory);
+            print_fields(out, "dir", &[brick, directory, Field::Layout(*layout)])
+        }
+        DumpLine::Slot(brick, directory, name, file) => {
+            let brick = Field::Number(u64::from(brick.0));
+            let directory = Field::Gfid(*directory);
+            let file = Field::Gfid(*file);
+            let (data, none) = (Field::Word("data"), Field::Word("-"));
+            let words = [brick, directory, Field::Name(name), data, file, none];
+            print_fields(out, "slot", &words)
+        }
+        DumpLine::File(brick, file, hop, links, size, digest) => {
+            let brick = Field::Number(u64::from(brick.0));
+            let numbers = [
+                Field::Number(*hop),
+                Field::Number(*links),
+                Field::Number(*size),
+            ];
+            let [hop, links, size] = numbers;
+            let (file, live) = (Field::Gfid(*file), Field::Word("live"));
+            let words = [brick, file, live, hop, links, size, Field::Hex(digest)];
+            print_fields(out, "file", &words)
+        }
+        DumpLine::End => print_fields(out, "end", &[]),
+    }
+}
+
+/// Appends the last line of a run whose schedule's line of this number, from 1, is malformed. Where
+/// memory runs out, `out` stays as it was.
+#[tactic(auto, unfolding(crate::specs::Transcript::malformed_text))]
+pub fn print_malformed(number: u64, out: &mut Vec<u8>) -> Result<(), AllocError>
+    ensures ok { OnOk result (out.new.items ≡ out.old.items ++ malformed_text number) }
+    ensures err { OnErr result (out.new.items ≡ out.old.items) }
+{
+    print_fields(out, "malformed", &[Field::Number(number)])
+}
+
+/// Appends what the program can be asked for. Where memory runs out, `out` stays as it was.
+#[tactic(auto, unfolding(crate::specs::Transcript::usage_text))]
+pub fn print_usage(out: &mut Vec<u8>) -> Result<(), AllocError>
+    ensures ok { OnOk result (out.new.items ≡ out.old.items ++ usage_text) }
+    ensures err { OnErr result (out.new.items ≡ out.old.items) }
+{
+    out.extend_from_slice(b"usage: dhtvol replay, serve, hash, layout, bulk\n")
+}
+
+/// The text of lines grows by the text of each: this is a law for callers, and does nothing.
+pub fn lines_follow()
+    ensures lines { (lines : List Line) (line : Line) → lines_text (lines ++ line ∷ []) ≡ lines_text lines ++ line_text line }
+    ensures dump { (lines : List DumpLine) (line : DumpLine) → dump_lines_text (lines ++ line ∷ []) ≡ dump_lines_text lines ++ dump_text line }
+{}
