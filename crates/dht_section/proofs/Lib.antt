@@ -1,0 +1,5 @@
+pub mod ContentsLaws
+pub mod KeptLaws
+pub mod MovedLaws
+pub mod SceneLaws
+pub mod SectionSteps

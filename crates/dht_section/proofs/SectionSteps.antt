@@ -1,0 +1,188 @@
+-- The steps of the section and the closing.
+use Rattle.std.proofs.Common.{◌≡◌, ◌<◌, ◌≤◌, ◌+◌, ◌-◌, ℕ, refl, sym, ◌∙◌, ap, subst, arith, inl, inr, true, false}
+use Rattle.std.specs.Prelude.{Option, Some, None, is_some, length, List}
+use Rattle.std.proofs.lemmas.Bool.{cases_eq}
+use Rattle.dht_types.specs.Gfid.{Entry, root, same_gfid}
+use Rattle.dht_types.specs.Tree.{Tree, Node, IsFile}
+use Rattle.dht_types.specs.declared.identifiers.Gfid.{Gfid}
+use Rattle.dht_types.specs.declared.identifiers.BrickNo.{BrickNo}
+use Rattle.dht_types.specs.declared.locks.Mode.TheVariants.{Shared, Exclusive}
+use Rattle.dht_brick.specs.Contents.{dir}
+use Rattle.dht_brick.specs.Rows.{in_dir}
+use Rattle.dht_brick.specs.declared.requests.DirRecord.{DirRecord}
+use Rattle.dht_brick.specs.declared.requests.Main.{Main}
+use Rattle.dht_brick.specs.declared.requests.Main.TheVariants.{File}
+use Rattle.dht_brick.specs.declared.requests.NameRequest.TheVariants.{Look}
+use Rattle.dht_brick.specs.declared.requests.Request.TheVariants.{OnNames}
+use Rattle.dht_brick.specs.declared.requests.Reply.{Reply}
+use Rattle.dht_brick.specs.declared.machines.Ask.{Ask}
+use Rattle.dht_section.specs.Replies.{is_no_memory, main_shown}
+use Rattle.dht_section.specs.Scene.{Disk, slot_at, NameTruth, Scene, Sound, Moved}
+use Rattle.dht_section.specs.Section.{entry_at, directory_key, name_key, lock_brick, section_asks, section_left, section_locks, section_location, section_stopped, stopped_location, stopped_locks, LocksBy, SectionKnows, seen, Truth, node_of, HasPlace, IsFresh, Locked, LockingKnows, LookingKnows, SawAt, HoldsName}
+use Rattle.dht_section.specs.SectionLaws.{bricks_are, lock_brick_is, truth_kept}
+use Rattle.dht_section.proofs.SceneLaws.{IsQuiet, row_reply, slot_moved, lock_moved, lock_taken, deeds_quiet}
+use Rattle.dht_section.specs.Closing.{closing_left}
+use Rattle.dht_section.specs.declared.closing.Closing.{Closing}
+use Rattle.dht_section.specs.declared.closing.Closing.TheVariants.{UnlockingName, UnlockingDirectory}
+use Rattle.dht_section.specs.declared.section.Location.{Location}
+use Rattle.dht_section.specs.declared.section.Place.{Place}
+use Rattle.dht_section.specs.declared.section.Stopped.{Stopped}
+use Rattle.dht_section.specs.declared.section.Section.{Section}
+use Rattle.dht_section.specs.declared.section.Section.TheVariants.{LockingDirectory, LockingName, Looking}
+
+pub place_moved : (l : Location) (s t : Scene) (a : Ask) (r : Reply) → HasPlace l s → Moved s a r t → HasPlace l t
+place_moved l s t a r h m = record { bricks = ap length m.weights ∙ h.bricks; root = h.root }
+
+pub fresh_moved : (l : Location) (s t : Scene) (a : Ask) (r : Reply) → IsQuiet a.request → IsFresh l s → Moved s a r t → IsFresh l t
+fresh_moved l s t a r q h m = record { place = place_moved l s t a r h.place m; deeds = deeds_quiet s t a r q m ∙ h.deeds }
+
+directory_step : (l : Location) (s t : Scene) (r : Reply) → Sound s → is_no_memory r ≡ false → IsFresh l s → Moved s (section_asks (LockingDirectory l)) r t → LockingKnows l t
+directory_step l s t r sound n h m = record {
+  fresh = fresh_moved l s t _ r tt h m;
+  directory = lock_taken s t (lock_brick l) l.directory (directory_key l) Shared r (lock_brick_is l s sound h.place) n m;
+}
+
+name_step : (l : Location) (s t : Scene) (r : Reply) → Sound s → Sound t → is_no_memory r ≡ false → LockingKnows l s → Moved s (section_asks (LockingName l)) r t → LookingKnows l (record { 0 = 0 }) None t
+name_step l s t r sound after n h m =
+    let fresh = fresh_moved l s t _ r tt h.fresh m in
+    let bricks = bricks_are l t after fresh.place in
+    let some = after.kept.some_brick in
+    record {
+      fresh = fresh;
+      locked = record {
+        directory = lock_moved s t _ r m l.directory (directory_key l) (Some Shared) refl h.directory;
+        name = lock_taken s t (lock_brick l) l.directory (name_key l) Exclusive r (lock_brick_is l s sound h.fresh.place) n m;
+      };
+      within = omega arith;
+      truth = λ b k. absurd (omega arith);
+    }
+
+-- every brick has a record of the root, and the root is in the tree
+pub in_dir_there : (o : Option DirRecord) (r : Reply) → is_some o ≡ true → in_dir o r ≡ r
+in_dir_there None r h = absurd (let e : false ≡ true = h in cc)
+in_dir_there (Some x) r h = refl
+
+pub root_there : (s : Scene) (g : Gfid) (b : ℕ) → Sound s → g ≡ root → b < s.disk.count → is_some (dir (s.disk.brick b) g) ≡ true
+root_there s g b sound e l = sound.kept.roots b g l ∙ ap (λ x. same_gfid x root) e
+
+pub root_in_tree : (s : Scene) (g : Gfid) → Sound s → g ≡ root → s.story.tree.dirs g ≡ true
+root_in_tree s g sound e = ap s.story.tree.dirs e ∙ (sound.kept.stands.dirs root ∙ root_there s root 0 sound refl sound.kept.some_brick)
+
+-- a look at a name of the root shows the slot
+pub look_shown : (g : Gfid) (n : List ℕ) (b : BrickNo) (s t : Scene) (r : Reply) → Sound s → g ≡ root → b.0 < s.disk.count → is_no_memory r ≡ false → Moved s (record { brick = b; request = OnNames (Look g n) }) r t → main_shown r ≡ slot_at s.disk b.0 (g, n)
+look_shown g n b s t r sound e l z m = ap main_shown (row_reply s t _ r m z ∙ in_dir_there (dir (s.disk.brick b.0) g) _ (root_there s g b.0 sound e l))
+
+-- one more look
+truth_seen : (d : Disk) (x : Entry) (b : BrickNo) (found : Option Place) (o : Option Main) → b.0 < d.count → slot_at d b.0 x ≡ o → Truth d x b.0 found → Truth d x (b.0 + 1) (seen found b o)
+truth_seen d x b None None l e t = λ i k. elim (cases_eq i b.0) [ inl q ↦ ap (λ (j : ℕ). slot_at d j x) q ∙ e | inr ne ↦ t i (omega arith) ]
+truth_seen d x b (Some p) None l e t = t
+truth_seen d x b found (Some (File f)) l e t = (l, e)
+
+look_truth : (l : Location) (b : BrickNo) (found : Option Place) (s t : Scene) (r : Reply) → Sound s → is_no_memory r ≡ false → LookingKnows l b found s → Moved s (section_asks (Looking l b found)) r t → Truth t.disk (entry_at l) (b.0 + 1) (seen found b (main_shown r))
+look_truth l b found s t r sound z h m =
+    let bricks = bricks_are l s sound h.fresh.place in
+    let within = h.within in
+    let here : b.0 < s.disk.count = omega arith in
+    truth_kept s.disk t.disk (entry_at l) (b.0 + 1) (seen found b (main_shown r)) m.disk.count (slot_moved s t _ r m tt (entry_at l))
+    (truth_seen s.disk (entry_at l) b found (main_shown r) here (sym (look_shown l.directory l.name b s t r sound h.fresh.place.root here z m)) h.truth)
+
+looked_locked : (l : Location) (b : BrickNo) (found : Option Place) (s t : Scene) (r : Reply) → Locked l s → Moved s (section_asks (Looking l b found)) r t → Locked l t
+looked_locked l b found s t r h m = record {
+  directory = lock_moved s t _ r m l.directory (directory_key l) (Some Shared) tt h.directory;
+  name = lock_moved s t _ r m l.directory (name_key l) (Some Exclusive) tt h.name;
+}
+
+look_step : (l : Location) (b : BrickNo) (found : Option Place) (next : ℕ) (s t : Scene) (r : Reply) → Sound s → is_no_memory r ≡ false → next ≡ b.0 + 1 → next < l.bricks → LookingKnows l b found s → Moved s (section_asks (Looking l b found)) r t → LookingKnows l (record { 0 = next }) (seen found b (main_shown r)) t
+look_step l b found next s t r sound z e k h m = record {
+  fresh = fresh_moved l s t _ r tt h.fresh m;
+  locked = looked_locked l b found s t r h.locked m;
+  within = k;
+  truth = subst (λ (i : ℕ). Truth t.disk (entry_at l) i (seen found b (main_shown r))) (sym e) (look_truth l b found s t r sound z h m);
+}
+
+-- what was found at all bricks is what the tree has
+node_none : (d : Disk) (x : Entry) (o : Option Node) → NameTruth d x o → ((b : ℕ) → b < d.count → slot_at d b x ≡ None) → o ≡ None
+node_none d x None h k = refl
+node_none d x (Some (IsFile f)) h k = absurd (let w = h.0 in let e : Some (File f) ≡ None = sym w.2 ∙ k w.0 w.1 in cc)
+
+node_some : (d : Disk) (x : Entry) (o : Option Node) (b : ℕ) (f : Gfid) → NameTruth d x o → b < d.count → slot_at d b x ≡ Some (File f) → o ≡ Some (IsFile f)
+node_some d x None b f h l e = absurd (let k : None ≡ Some (File f) = sym (h b l) ∙ e in cc)
+node_some d x (Some (IsFile g)) b f h l e = let k : File f ≡ File g = h.1 b (File f) l e in cc
+
+pub node_is : (s : Scene) (x : Entry) (found : Option Place) → Sound s → Truth s.disk x s.disk.count found → s.story.tree.names x ≡ node_of found
+node_is s x None sound h = node_none s.disk x (s.story.tree.names x) (sound.kept.stands.names x) h
+node_is s x (Some p) sound h = node_some s.disk x (s.story.tree.names x) p.brick.0 p.file (sound.kept.stands.names x) h.0 h.1
+
+-- what is seen of a name of the root at the line that was just written
+pub saw_now : (l : Location) (found : Option Place) (at : ℕ) (s : Scene) → Sound s → l.directory ≡ root → at ≡ s.story.size → s.story.tree.names (entry_at l) ≡ node_of found → SawAt l found at s
+saw_now l found at s sound g e h =
+    let begun = sound.begun in
+    let now : s.story.past at ≡ s.story.tree = ap s.story.past e ∙ sound.kept.point in
+    record {
+      after = omega arith;
+      before = omega arith;
+      directory = ap (λ (p : Tree). p.dirs l.directory) now ∙ root_in_tree s l.directory sound g;
+      node = ap (λ (p : Tree). p.names (entry_at l)) now ∙ h;
+    }
+
+last_step : (l : Location) (b : BrickNo) (found : Option Place) (at : ℕ) (s t : Scene) (r : Reply) → Sound s → Sound t → is_no_memory r ≡ false → l.bricks ≤ b.0 + 1 → at ≡ t.story.size → LookingKnows l b found s → Moved s (section_asks (Looking l b found)) r t → HoldsName (record { location = l; found = seen found b (main_shown r); at = at }) t
+last_step l b found at s t r sound after z k e h m =
+    let fresh = fresh_moved l s t _ r tt h.fresh m in
+    let bricks = bricks_are l t after fresh.place in
+    let within = h.within in
+    let all : b.0 + 1 ≡ t.disk.count = omega arith in
+    let truth : Truth t.disk (entry_at l) t.disk.count (seen found b (main_shown r)) = subst (λ (i : ℕ). Truth t.disk (entry_at l) i (seen found b (main_shown r))) all (look_truth l b found s t r sound z h m) in
+    record {
+      fresh = fresh;
+      locked = looked_locked l b found s t r h.locked m;
+      truth = truth;
+      saw = saw_now l (seen found b (main_shown r)) at t after h.fresh.place.root e (node_is t (entry_at l) (seen found b (main_shown r)) after truth);
+    }
+
+-- a section that is stopped: its name, the locks that it asked for, and what is known still
+stop_place : (m : Section) (s t : Scene) (r : Reply) → SectionKnows m s → Moved s (section_asks m) r t → HasPlace (stopped_location (section_stopped m)) t
+stop_place (LockingDirectory l) s t r h m = place_moved l s t _ r h.place m
+stop_place (LockingName l) s t r h m = place_moved l s t _ r h.fresh.place m
+stop_place (Looking l b found) s t r h m = place_moved l s t _ r h.fresh.place m
+
+stop_locks : (m : Section) → LocksBy (section_asks m).request (section_locks m) (stopped_locks (section_stopped m))
+stop_locks (LockingDirectory l) = refl
+stop_locks (LockingName l) = refl
+stop_locks (Looking l b found) = refl
+
+stop_location : (m : Section) → stopped_location (section_stopped m) ≡ section_location m
+stop_location (LockingDirectory l) = refl
+stop_location (LockingName l) = refl
+stop_location (Looking l b found) = refl
+
+-- the same, as `take` meets them
+pub take_stop : (m : Section) (x : Stopped) (s t : Scene) (r : Reply) → x ≡ section_stopped m → SectionKnows m s → Moved s (section_asks m) r t → HasPlace (stopped_location x) t
+take_stop m x s t r e h mv = rw e (stop_place m s t r h mv)
+
+pub take_stop_locks : (m : Section) (x : Stopped) → x ≡ section_stopped m → LocksBy (section_asks m).request (section_locks m) (stopped_locks x)
+take_stop_locks m x e = rw e (stop_locks m)
+
+pub take_stop_location : (m : Section) (x : Stopped) → x ≡ section_stopped m → stopped_location x ≡ section_location m
+take_stop_location m x e = ap stopped_location e ∙ stop_location m
+
+pub take_directory : (m : Section) (l : Location) (r : Reply) (s t : Scene) → m ≡ LockingDirectory l → is_no_memory r ≡ false → Sound s → SectionKnows m s → Moved s (section_asks m) r t → LockingKnows l t × (l.bricks + 1 < section_left m)
+take_directory m l r s t e z sound h mv = (directory_step l s t r sound z (rw e at h) (rw e at mv), rw e (omega arith))
+
+pub take_name : (m : Section) (l : Location) (r : Reply) (s t : Scene) → m ≡ LockingName l → is_no_memory r ≡ false → Sound s → Sound t → SectionKnows m s → Moved s (section_asks m) r t → LookingKnows l (record { 0 = 0 }) None t × (l.bricks - 0 < section_left m)
+take_name m l r s t e z sound after h mv = (name_step l s t r sound after z (rw e at h) (rw e at mv), rw e (omega arith))
+
+pub take_look : (m : Section) (l : Location) (b : BrickNo) (found new : Option Place) (next : ℕ) (r : Reply) (s t : Scene) → m ≡ Looking l b found → is_no_memory r ≡ false → new ≡ seen found b (main_shown r) → next ≡ b.0 + 1 → next < l.bricks → Sound s → SectionKnows m s → Moved s (section_asks m) r t → LookingKnows l (record { 0 = next }) new t × (l.bricks - next < section_left m)
+take_look m l b found new next r s t e z f n k sound h mv = (rw f (look_step l b found next s t r sound z n k (rw e at h) (rw e at mv)), rw e (omega arith))
+
+pub take_last : (m : Section) (l : Location) (b : BrickNo) (found new : Option Place) (at : ℕ) (r : Reply) (s t : Scene) → m ≡ Looking l b found → is_no_memory r ≡ false → new ≡ seen found b (main_shown r) → l.bricks ≤ b.0 + 1 → at ≡ t.story.size → Sound s → Sound t → SectionKnows m s → Moved s (section_asks m) r t → HoldsName (record { location = l; found = new; at = at }) t
+take_last m l b found new at r s t e z f k a sound after h mv = rw f (last_step l b found at s t r sound after z k a (rw e at h) (rw e at mv))
+
+-- a section sends another request, and a closing at most two
+pub section_goes_on : (m : Section) (s : Scene) → SectionKnows m s → 0 < section_left m
+section_goes_on (LockingDirectory l) s h = omega arith
+section_goes_on (LockingName l) s h = omega arith
+section_goes_on (Looking l b found) s h = let w = h.within in omega arith
+
+pub closing_short : (c : Closing) → closing_left c ≤ 2
+closing_short (UnlockingName l f) = omega arith
+closing_short (UnlockingDirectory l f) = omega arith

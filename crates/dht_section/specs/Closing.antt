@@ -1,0 +1,45 @@
+-- What a closing asks and knows.
+use Rattle.std.specs.Prelude.{ℕ, None, List, [], ◌∷◌}
+use Rattle.dht_types.specs.declared.locks.Key.{Key}
+use Rattle.dht_types.specs.declared.errors.Errno.TheVariants.{Enomem}
+use Rattle.dht_types.specs.declared.calls.Answer.TheVariants.{Fault}
+use Rattle.dht_brick.specs.declared.requests.Request.TheVariants.{Unlock}
+use Rattle.dht_brick.specs.declared.machines.Ask.{Ask}
+use Rattle.dht_brick.specs.declared.machines.Finish.{Finish}
+use Rattle.dht_section.specs.Scene.{Scene, Earned}
+use Rattle.dht_section.specs.Section.{HasPlace, lock_brick, directory_key, name_key, both_locks}
+use Rattle.dht_section.specs.declared.section.Location.{Location}
+use Rattle.dht_section.specs.declared.closing.Closing.{Closing}
+use Rattle.dht_section.specs.declared.closing.Closing.TheVariants.{UnlockingName, UnlockingDirectory}
+
+-- the answer of a call that was stopped by want of memory
+abbrev pub want_of_memory : Finish
+want_of_memory = record { answer = Fault Enomem; at = None }
+
+abbrev pub closing_asks : Closing → Ask
+closing_asks (UnlockingName l f) = record { brick = record { 0 = lock_brick l }; request = Unlock (name_key l) }
+closing_asks (UnlockingDirectory l f) = record { brick = record { 0 = lock_brick l }; request = Unlock (directory_key l) }
+
+-- how many requests it still sends
+abbrev pub closing_left : Closing → ℕ
+closing_left (UnlockingName l f) = 2
+closing_left (UnlockingDirectory l f) = 1
+
+-- the locks that it gives back, in order
+abbrev pub closing_locks : Closing → List Key
+closing_locks (UnlockingName l f) = both_locks l
+closing_locks (UnlockingDirectory l f) = directory_key l ∷ []
+
+abbrev pub closing_location : Closing → Location
+closing_location (UnlockingName l f) = l
+closing_location (UnlockingDirectory l f) = l
+
+-- what the call will answer
+abbrev pub closing_finish : Closing → Finish
+closing_finish (UnlockingName l f) = f
+closing_finish (UnlockingDirectory l f) = f
+
+-- the answer is right already
+pub record ClosingKnows (c : Closing) (s : Scene) : Type 0 where
+  pub place : HasPlace (closing_location c) s
+  pub earned : Earned (closing_finish c) s

@@ -1,0 +1,9 @@
+pub mod Scene
+pub mod Turns
+pub mod Begins
+pub mod Replies
+pub mod Section
+pub mod SectionLaws
+pub mod EarnedLaws
+pub mod Closing
+pub mod ClosingLaws

@@ -1,0 +1,176 @@
+-- What a machine's knowledge speaks of: all bricks, the story so far, and the machine's own call. What the bricks stand for, what a machine may ask, what its request changes, and what the requests of others may change.
+use Rattle.std.specs.Prelude.{ℕ, ◌<◌, ◌≤◌, ◌≡◌, ◌≢◌, nat_eq, is_some, Option, Some, None, List, length}
+use Rattle.dht_types.specs.Put.{put}
+use Rattle.dht_types.specs.Gfid.{Entry, root, home, anchor, call_of, same_gfid}
+use Rattle.dht_types.specs.Tree.{Tree, Node, IsFile, applied, Fits}
+use Rattle.dht_types.specs.Story.{Story, Running, Deeds, Answers, IsNext, IsOwn, deeds_after, made_in}
+use Rattle.dht_types.specs.declared.identifiers.Gfid.{Gfid}
+use Rattle.dht_types.specs.declared.identifiers.ClientNo.{ClientNo}
+use Rattle.dht_types.specs.declared.calls.TreeStep.{TreeStep}
+use Rattle.dht_types.specs.declared.calls.TreeStep.TheVariants.{AddFile}
+use Rattle.dht_types.specs.declared.locks.Key.{Key}
+use Rattle.dht_types.specs.declared.locks.Key.TheVariants.{Dir, Entry as Name}
+use Rattle.dht_types.specs.declared.locks.Mode.{Mode}
+use Rattle.dht_types.specs.declared.locks.Mode.TheVariants.{Exclusive}
+use Rattle.dht_brick.specs.Contents.{Contents, FileRecord, slot, dir, file}
+use Rattle.dht_brick.specs.Rows.{Serves}
+use Rattle.dht_brick.specs.declared.requests.Main.{Main}
+use Rattle.dht_brick.specs.declared.requests.Main.TheVariants.{File}
+use Rattle.dht_brick.specs.declared.requests.NameRequest.{NameRequest}
+use Rattle.dht_brick.specs.declared.requests.NameRequest.TheVariants.{Look, Dirinfo, Create}
+use Rattle.dht_brick.specs.declared.requests.Request.{Request}
+use Rattle.dht_brick.specs.declared.requests.Request.TheVariants.{Lock, Unlock, OnNames}
+use Rattle.dht_brick.specs.declared.requests.Reply.{Reply}
+use Rattle.dht_brick.specs.declared.requests.Reply.TheVariants.{Ok as Carried, Refused as Declined, NoMemory}
+use Rattle.dht_brick.specs.declared.machines.Ask.{Ask}
+use Rattle.dht_brick.specs.declared.machines.Finish.{Finish}
+
+-- all bricks
+pub record Disk : Type 0 where
+  pub count : ℕ
+  pub brick : ℕ → Contents
+
+-- what a brick has at a name, and of a file
+abbrev pub slot_at : Disk → ℕ → Entry → Option Main
+slot_at d b e = slot (d.brick b) e
+
+abbrev pub file_at : Disk → ℕ → Gfid → Option FileRecord
+file_at d b f = file (d.brick b) f
+
+-- how a client holds a lock: the locks of a directory and its names stand on the directory's anchor
+abbrev pub lock_at : Disk → Gfid → Key → ClientNo → Option Mode
+lock_at d g key c = (d.brick (anchor g d.count)).locks key c.0
+
+-- the truth of a name, the file of a main part on any brick or else nothing, is this
+abbrev pub NameTruth : Disk → Entry → Option Node → Type 0
+NameTruth d e None = (b : ℕ) → b < d.count → slot_at d b e ≡ None
+NameTruth d e (Some (IsFile f)) = ((b : ℕ) × (b < d.count) × (slot_at d b e ≡ Some (File f))) × ((b : ℕ) (m : Main) → b < d.count → slot_at d b e ≡ Some m → m ≡ File f)
+
+-- the truth of a file's bytes, those of its record on any brick, is this
+abbrev pub FileTruth : Disk → Gfid → Option (List ℕ) → Type 0
+FileTruth d f None = (b : ℕ) → b < d.count → file_at d b f ≡ None
+FileTruth d f (Some bytes) = ((b : ℕ) × (b < d.count) × ((r : FileRecord) × (file_at d b f ≡ Some r))) × ((b : ℕ) (r : FileRecord) → b < d.count → file_at d b f ≡ Some r → r.bytes ≡ bytes)
+
+-- the bricks stand for the tree: each name's truth is what the tree says of it, a directory is one of the tree exactly where its home brick has its record, and each file's bytes are the tree's
+pub record Stands (d : Disk) (t : Tree) : Type 0 where
+  pub names : (e : Entry) → NameTruth d e (t.names e)
+  pub dirs : (g : Gfid) → t.dirs g ≡ is_some (dir (d.brick (home g)) g)
+  pub bytes : (f : Gfid) → FileTruth d f (t.bytes f)
+
+-- what holds of bricks and story between any two requests, whoever asks: the invariant of the volume
+pub record Kept (d : Disk) (s : Story) : Type 0 where
+  pub stands : Stands d s.tree
+  pub one : (e : Entry) (b i : ℕ) (m n : Main) → b < d.count → i < d.count → slot_at d b e ≡ Some m → slot_at d i e ≡ Some n → b ≡ i
+  pub roots : (b : ℕ) (g : Gfid) → b < d.count → is_some (dir (d.brick b) g) ≡ same_gfid g root
+  pub some_brick : 0 < d.count
+  pub counted : d.count ≡ length s.weights
+  pub few : d.count ≤ 32
+  pub point : s.past s.size ≡ s.tree
+  -- each file was made by a call that was accepted, and by none that has done nothing yet
+  pub known : (f : Gfid) → s.tree.bytes f ≢ None → call_of f ≤ s.calls
+  pub fresh : (c : ℕ) (r : Running) → s.running c ≡ Some r → r.deeds ≡ None → (f : Gfid) → call_of f ≡ r.number.0 → s.tree.bytes f ≡ None
+
+-- what a client's machine may speak of: all bricks, the story, who it is, and its own call
+pub record Scene : Type 0 where
+  pub disk : Disk
+  pub story : Story
+  pub who : ClientNo
+  pub mine : Running
+
+-- the invariant holds, and the call is running
+pub record Sound (s : Scene) : Type 0 where
+  pub kept : Kept s.disk s.story
+  pub runs : s.story.running s.who.0 ≡ Some s.mine
+  pub begun : s.mine.since ≤ s.story.size
+
+-- the step of the tree that a carried-out request stands for
+abbrev pub name_step : NameRequest → Option TreeStep
+name_step (Look d n) = None
+name_step (Dirinfo d) = None
+name_step (Create d n f) = Some (AddFile d n f)
+
+abbrev pub request_step : Request → Option TreeStep
+request_step (Lock key mode) = None
+request_step (Unlock key) = None
+request_step (OnNames q) = name_step q
+
+abbrev pub step_of : Request → Reply → Option TreeStep
+step_of q (Carried given) = request_step q
+step_of q (Declined why) = None
+step_of q NoMemory = None
+
+-- the step is the next that my call is to do, it can be done, and what it makes is this call's own
+pub record Wants (s : Scene) (step : TreeStep) : Type 0 where
+  pub next : IsNext s.story.tree s.mine.call s.mine.deeds step
+  pub fits : Fits step s.story.tree
+  pub own : IsOwn s.story.run s.who s.mine.number (made_in step)
+
+-- what must hold when a request about names is sent. Create: under the lock of the name, which no brick has yet
+abbrev pub MayName : Scene → NameRequest → Type 0
+MayName s (Look d n) = Unit {0}
+MayName s (Dirinfo d) = Unit {0}
+MayName s (Create d n f) = (lock_at s.disk d (Name d n) s.who ≡ Some Exclusive) × Wants s (AddFile d n f)
+
+-- the directory on whose anchor a lock stands
+abbrev pub lock_dir : Key → Gfid
+lock_dir (Dir g) = g
+lock_dir (Name g n) = g
+
+-- what must hold when a request is sent. Locks are asked of the brick on which they stand
+abbrev pub May : Scene → ℕ → Request → Type 0
+May s b (Lock key mode) = b ≡ anchor (lock_dir key) s.disk.count
+May s b (Unlock key) = b ≡ anchor (lock_dir key) s.disk.count
+May s b (OnNames q) = MayName s q
+
+pub record Permitted (s : Scene) (a : Ask) : Type 0 where
+  pub there : a.brick.0 < s.disk.count
+  pub may : May s a.brick.0 a.request
+
+-- the tree after a step, or after none
+abbrev pub tree_by : Option TreeStep → Tree → Tree
+tree_by None t = t
+tree_by (Some step) t = applied step t
+
+-- the call's tree lines with that of a step, at this line, or as they were
+abbrev pub deeds_by : Scene → ℕ → Option TreeStep → Option Deeds
+deeds_by s line None = s.mine.deeds
+deeds_by s line (Some step) = Some (deeds_after s.story.tree line s.mine.call s.mine.deeds step)
+
+-- one brick changed, and the others did not
+pub record Changes (d : Disk) (b : ℕ) (new : Contents) (e : Disk) : Type 0 where
+  pub count : e.count ≡ d.count
+  pub brick : e.brick ≡ put nat_eq d.brick b new
+
+-- my request was served with this reply, and its lines were written
+pub record Moved (s : Scene) (a : Ask) (r : Reply) (t : Scene) : Type 0 where
+  pub new : Contents
+  pub served : Serves s.who a.request (s.disk.brick a.brick.0) r new
+  pub disk : Changes s.disk a.brick.0 new t.disk
+  pub who : t.who ≡ s.who
+  pub number : t.mine.number ≡ s.mine.number
+  pub call : t.mine.call ≡ s.mine.call
+  pub since : t.mine.since ≡ s.mine.since
+  pub deeds : t.mine.deeds ≡ deeds_by s t.story.size (step_of a.request r)
+  pub tree : t.story.tree ≡ tree_by (step_of a.request r) s.story.tree
+  pub run : t.story.run ≡ s.story.run
+  pub weights : t.story.weights ≡ s.story.weights
+  pub later : s.story.size ≤ t.story.size
+  pub past : (j : ℕ) → j ≤ s.story.size → t.story.past j ≡ s.story.past j
+
+-- what all others together may do between two requests of mine: each name whose lock I hold alone is kept, on the bricks and in the tree, and so is each lock that I hold
+pub record Others (s t : Scene) : Type 0 where
+  pub who : t.who ≡ s.who
+  pub mine : t.mine ≡ s.mine
+  pub count : t.disk.count ≡ s.disk.count
+  pub run : t.story.run ≡ s.story.run
+  pub weights : t.story.weights ≡ s.story.weights
+  pub locks : (g : Gfid) (key : Key) (mode : Mode) → lock_at s.disk g key s.who ≡ Some mode → lock_at t.disk g key s.who ≡ Some mode
+  pub slots : (g : Gfid) (n : List ℕ) → lock_at s.disk g (Name g n) s.who ≡ Some Exclusive → (b : ℕ) → slot_at t.disk b (g, n) ≡ slot_at s.disk b (g, n)
+  pub names : (g : Gfid) (n : List ℕ) → lock_at s.disk g (Name g n) s.who ≡ Some Exclusive → t.story.tree.names (g, n) ≡ s.story.tree.names (g, n)
+  pub dirs : (g : Gfid) → t.story.tree.dirs g ≡ s.story.tree.dirs g
+  pub later : s.story.size ≤ t.story.size
+  pub past : (j : ℕ) → j ≤ s.story.size → t.story.past j ≡ s.story.past j
+
+-- the call may answer so now
+abbrev pub Earned : Finish → Scene → Type 0
+Earned f s = Answers s.story s.mine f.at f.answer

@@ -1,0 +1,68 @@
+//! A client, as the world sees it: it has at most one running call, whatever the call's program is.
+
+ghost use Rattle.std.specs.Prelude.{◌≡◌, ◌<◌, ◌≤◌, ℕ, Bool, true, false, not, None, length, MatchOption};
+ghost use Rattle.dht_types.specs.Cost.{cost};
+ghost use Rattle.dht_types.specs.declared.identifiers.ClientNo.{ClientNo};
+ghost use Rattle.dht_brick.specs.declared.machines.Ask.{Ask};
+ghost use Rattle.dht_section.specs.Scene.{Scene, Sound, Moved, Permitted, Others, Earned};
+ghost use Rattle.dht_section.specs.Begins.{Begins, IsInRoot};
+
+use dht_brick::machines::{Ask, Finish};
+use dht_brick::requests::Reply;
+use dht_types::calls::Call;
+use dht_types::identifiers::CallNo;
+use dht_types::volumes::Weights;
+
+/// A client that carries out one call at a time.
+pub trait Caller: Sized {
+    /// Its number.
+    ghost number: { Self → ClientNo };
+
+    /// Whether a call of it is running.
+    ghost is_busy: { Self → Bool };
+
+    /// The request that its call sends next.
+    ghost asks: { Self → Ask };
+
+    /// What its call knows of the scene between its requests.
+    ghost knows: { Self → Scene → Type 0 };
+
+    /// How many requests its call still sends at most.
+    ghost left: { Self → ℕ };
+
+    /// Whether no call of it is running.
+    fn is_idle(&self) -> bool
+        ensures { result ≡ not (is_busy self.now) };
+
+    /// Begins a call, over bricks of these weights and in this run.
+    fn start(&mut self, weights: &Weights, run: u32, call: CallNo, what: &Call)
+        requires idle { is_busy self.old ≡ false }
+        requires few { length weights.now ≤ 32 }
+        requires root { IsInRoot what.now }
+        ensures busy { is_busy self.new ≡ true }
+        ensures number { number self.new ≡ number self.old }
+        ensures knows { (s : Scene) → Begins (number self.old) weights.now run call what.now s → knows self.new s }
+        ensures left { left self.new ≤ cost (length weights.now) what.now };
+
+    /// The request that its call sends next.
+    fn next(&self) -> Ask
+        requires { is_busy self.now ≡ true }
+        ensures { result ≡ asks self.now };
+
+    /// Takes the reply to its request; `at` is the number of the line on which the call's last line
+    /// stands. It gives what the call answers, if the call is finished.
+    fn take(&mut self, reply: Reply, at: u64) -> Option<Finish>
+        requires { is_busy self.old ≡ true }
+        ensures number { number self.new ≡ number self.old }
+        ensures moves { (s t : Scene) → Sound s → Sound t → knows self.old s → Moved s (asks self.old) reply t → at ≡ t.story.size
+            → MatchOption result ((is_busy self.new ≡ true) × knows self.new t × (left self.new < left self.old)) (λ f. (is_busy self.new ≡ false) × Earned f t) };
+
+    /// Its call may send its request in every sound scene of which its knowledge holds.
+    ghost permitted: { (c : Self) (s : Scene) → Sound s → is_busy c ≡ true → knows c s → Permitted s (asks c) };
+
+    /// What others may do leaves its knowledge true.
+    ghost stable: { (c : Self) (s t : Scene) → knows c s → Others s t → knows c t };
+
+    /// A running call sends another request.
+    ghost goes_on: { (c : Self) → is_busy c ≡ true → 0 < left c };
+}

@@ -1,0 +1,9 @@
+//! What the program of a call may know of the bricks, ask of them and rely on; and the section, the
+//! guarded part of a call.
+#![tactic(auto)]
+
+pub mod caller;
+pub mod closing;
+pub mod machine;
+pub mod replies;
+pub mod section;
