@@ -1,0 +1,4 @@
+pub mod LookupSteps
+pub mod CreateSteps
+pub mod ProgramSteps
+pub mod ClientSteps

@@ -1,0 +1,71 @@
+-- The laws of a create as a machine.
+use Rattle.std.proofs.Common.{◌≡◌, ℕ, List, [], ◌∷◌, sym, ◌∙◌, ap, subst, arith, true}
+use Rattle.std.specs.Prelude.{Option, None, if◌then◌else◌}
+use Rattle.dht_types.specs.Gfid.{made}
+use Rattle.dht_types.specs.Tree.{Tree, Do, Refuse, says, created}
+use Rattle.dht_types.specs.Story.{Running, Deeds, IsNext}
+use Rattle.dht_types.specs.declared.identifiers.Gfid.{Gfid}
+use Rattle.dht_types.specs.declared.identifiers.ClientNo.{ClientNo}
+use Rattle.dht_types.specs.declared.errors.Errno.TheVariants.{Estale}
+use Rattle.dht_types.specs.declared.calls.Call.{Call}
+use Rattle.dht_types.specs.declared.calls.Call.TheVariants.{Create}
+use Rattle.dht_types.specs.declared.calls.Answer.TheVariants.{Made}
+use Rattle.dht_types.specs.declared.calls.TreeStep.TheVariants.{AddFile}
+use Rattle.dht_section.specs.Scene.{Scene, Sound, Permitted, Others, Wants}
+use Rattle.dht_section.proofs.SectionSteps.{root_in_tree, node_is}
+use Rattle.dht_section.specs.Section.{entry_at}
+use Rattle.dht_section.specs.SectionLaws.{section_permitted, section_stable, fresh_stable, locked_stable}
+use Rattle.dht_section.specs.ClosingLaws.{closing_permitted, closing_stable}
+use Rattle.dht_section.specs.declared.section.Location.{Location}
+use Rattle.dht_client.specs.Layout.{holder_of}
+use Rattle.dht_client.specs.LookupLaws.{holder_there}
+use Rattle.dht_client.specs.Create.{create_asks, CreateKnows, Makes, IsFree}
+use Rattle.dht_client.specs.declared.create.NewFile.{NewFile}
+use Rattle.dht_client.specs.declared.create.CreateCall.{CreateCall}
+use Rattle.dht_client.specs.declared.create.CreateCall.TheVariants.{Securing, Creating, Ending}
+
+-- a tree that has the directory, and not the name, says to make the file
+pub says_create : (t : Tree) (d : Gfid) (n : List ℕ) (g : Gfid) → t.dirs d ≡ true → t.names (d, n) ≡ None → says t (Create d n) g ≡ Do (AddFile d n g ∷ []) (Made g)
+says_create t d n g e k = ap (λ b. if b then created d n g (t.names (d, n)) else Refuse Estale) e ∙ ap (λ o. created d n g o) k
+
+pub free_says : (x : NewFile) (l : Location) (s : Scene) → Sound s → IsFree x l s → says s.story.tree s.mine.call x.file ≡ Do (AddFile l.directory l.name x.file ∷ []) (Made x.file)
+free_says x l s sound h =
+    ap (λ (c : Call). says s.story.tree c x.file) h.makes.call
+    ∙ says_create s.story.tree l.directory l.name x.file (root_in_tree s l.directory sound h.fresh.place.root) (node_is s (entry_at l) None sound h.empty)
+
+-- no file has the new gfid
+pub file_free : (x : NewFile) (l : Location) (s : Scene) → Sound s → IsFree x l s → s.story.tree.bytes x.file ≡ None
+file_free x l s sound h = sound.kept.fresh s.who.0 s.mine sound.runs h.fresh.deeds x.file h.makes.numbered
+
+wants_file : (x : NewFile) (l : Location) (s : Scene) → Sound s → IsFree x l s → Wants s (AddFile l.directory l.name x.file)
+wants_file x l s sound h = record {
+  next = subst (λ (d : Option Deeds). IsNext s.story.tree s.mine.call d (AddFile l.directory l.name x.file)) (sym h.fresh.deeds) ([], (Made x.file, free_says x l s sound h));
+  fits = (root_in_tree s l.directory sound h.fresh.place.root, node_is s (entry_at l) None sound h.empty, file_free x l s sound h);
+  own = (x.holder.0, let w = holder_there x.holder.0 s sound h.makes.holder in let few = sound.kept.few in omega arith, h.makes.file);
+}
+
+pub create_permitted : (m : CreateCall) (s : Scene) → Sound s → CreateKnows m s → Permitted s (create_asks m)
+create_permitted (Securing x m) s sound h = section_permitted m s sound h.section
+create_permitted (Creating x l) s sound h = record { there = holder_there x.holder.0 s sound h.makes.holder; may = (h.locked.name, wants_file x l s sound h) }
+create_permitted (Ending c) s sound h = closing_permitted c s sound h
+
+makes_stable : (x : NewFile) (l : Location) (s t : Scene) → Makes x l s → Others s t → Makes x l t
+makes_stable x l s t h o = record {
+  call = ap (λ (r : Running). r.call) o.mine ∙ h.call;
+  holder = h.holder ∙ ap holder_of (sym o.weights);
+  file = h.file ∙ (ap (λ (n : ℕ). made n s.who s.mine.number x.holder.0) (sym o.run) ∙ (ap (λ (c : ClientNo). made t.story.run c s.mine.number x.holder.0) (sym o.who) ∙ ap (λ (r : Running). made t.story.run t.who r.number x.holder.0) (sym o.mine)));
+  numbered = h.numbered ∙ ap (λ (r : Running). r.number.0) (sym o.mine);
+}
+
+free_stable : (x : NewFile) (l : Location) (s t : Scene) → IsFree x l s → Others s t → IsFree x l t
+free_stable x l s t h o = record {
+  makes = makes_stable x l s t h.makes o;
+  fresh = fresh_stable l s t h.fresh o;
+  locked = locked_stable l s t h.locked o;
+  empty = λ b k. o.slots l.directory l.name h.locked.name b ∙ h.empty b (let c = o.count in omega arith);
+}
+
+pub create_stable : (m : CreateCall) (s t : Scene) → CreateKnows m s → Others s t → CreateKnows m t
+create_stable (Securing x m) s t h o = record { makes = makes_stable x _ s t h.makes o; section = section_stable m s t h.section o }
+create_stable (Creating x l) s t h o = free_stable x l s t h o
+create_stable (Ending c) s t h o = closing_stable c s t h o

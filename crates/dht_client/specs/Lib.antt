@@ -1,0 +1,11 @@
+pub mod Layout
+pub mod LayoutLaws
+pub mod Memory
+pub mod Lookup
+pub mod LookupLaws
+pub mod Create
+pub mod CreateLaws
+pub mod Program
+pub mod ProgramLaws
+pub mod Client
+pub mod ClientLaws
