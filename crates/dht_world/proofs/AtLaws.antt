@@ -1,0 +1,286 @@
+-- How what holds of the world is kept by each kind of line.
+use Rattle.std.proofs.Common.{◌≡◌, ◌≢◌, ◌<◌, ◌≤◌, ◌+◌, ◌^◌, ℕ, Bool, true, false, List, [], ◌∷◌, ◌++◌, refl, sym, ap, ◌∙◌, subst, inl, inr, length, arith}
+use Rattle.std.specs.Prelude.{Option, Some, None, nat_eq, MatchBool}
+use Rattle.dht_types.specs.Put.{put}
+use Rattle.dht_types.proofs.PutLaws.{put_same, put_other, exact_nat}
+use Rattle.dht_types.specs.Gfid.{call_of}
+use Rattle.dht_types.specs.Cost.{cost}
+use Rattle.dht_types.specs.Story.{Story, Running, told, told_all, start, story_of, LegalFrom}
+use Rattle.dht_types.proofs.StoryLaws.{told_more, told_append, legal_append, point_told}
+use Rattle.dht_types.specs.declared.identifiers.Gfid.{Gfid}
+use Rattle.dht_types.specs.declared.identifiers.ClientNo.{ClientNo}
+use Rattle.dht_types.specs.declared.identifiers.CallNo.{CallNo}
+use Rattle.dht_types.specs.declared.calls.Call.{Call}
+use Rattle.dht_types.specs.declared.lines.Cause.{Cause}
+use Rattle.dht_types.specs.declared.lines.Line.{Line}
+use Rattle.dht_types.specs.declared.lines.Line.TheVariants.{Called, Answered, Refused}
+use Rattle.dht_brick.specs.Contents.{Contents}
+use Rattle.dht_brick.specs.Rows.{Serves}
+use Rattle.dht_brick.specs.Kinds.{entry_of}
+use Rattle.dht_brick.specs.declared.journal.JournalEntry.{JournalEntry}
+use Rattle.dht_brick.specs.declared.machines.Ask.{Ask}
+use Rattle.dht_brick.specs.declared.machines.Finish.{Finish}
+use Rattle.dht_brick.specs.declared.requests.Reply.{Reply}
+use Rattle.dht_section.specs.Scene.{Disk, Scene, Kept, Sound, Others, Earned, Permitted, Moved, Changes}
+use Rattle.dht_section.specs.Begins.{Begins}
+use Rattle.dht_section.proofs.KeptLaws.{SameDisk, kept_same, nat_cases}
+use Rattle.dht_section.proofs.MovedLaws.{kept_moved}
+use Rattle.dht_world.specs.Lines.{request_lines}
+use Rattle.dht_world.specs.World.{scene, Works, Fit, At}
+use Rattle.dht_world.proofs.LineLaws.{in_time_append, legal_lines, others_line}
+use Rattle.dht_world.proofs.WentLaws.{client, Sent, Went, went}
+
+pub same_disk : (d : Disk) → SameDisk d d
+same_disk d = record { count = refl; each = λ b. record { dirs = refl; slots = refl; files = refl } }
+
+-- a running call of another client there is none, so no call but the one client's is new
+no_other : (s : Story) (f : ℕ → Option Running) → ((c : ℕ) → c ≢ 0 → s.running c ≡ None) → (o : Option Running) → (c : ℕ) (r : Running) → put nat_eq s.running 0 o c ≡ Some r → (c ≡ 0) × (o ≡ Some r)
+no_other s f alone o c r e = elim (nat_cases c 0) [
+  | inl q ↦ (q, sym (ap (put nat_eq s.running 0 o) q ∙ put_same nat_eq exact_nat s.running 0 o) ∙ e)
+  | inr ne ↦ absurd (let z : Some r ≡ None = sym e ∙ (put_other nat_eq exact_nat s.running 0 o c ne ∙ alone c ne) in cc)
+]
+
+module _ {C : Type 0} (number : C → ClientNo) (is_busy : C → Bool) (knows_of : C → Scene → Type 0) (left : C → ℕ) (stable : (c : C) (s t : Scene) → knows_of c s → Others s t → knows_of c t) where
+  own_refused : (d : Disk) (s : Story) (c : C) (n : ℕ) (cause : Cause) (b : Bool) → MatchBool b (Works knows_of left d s c) (s.running 0 ≡ None) → MatchBool b (Works knows_of left d (told s (Refused n cause)) c) (s.running 0 ≡ None)
+  own_refused d s c n cause true h =
+      let begun = h.begun in
+      record {
+        mine = h.mine;
+        runs = h.runs;
+        number = h.number;
+        begun = omega arith;
+        knows = stable c (scene d s client h.mine) (scene d (told s (Refused n cause)) client h.mine) h.knows (others_line d s client h.mine (Refused n cause) refl refl);
+        in_time = h.in_time;
+      }
+  own_refused d s c n cause false h = h
+
+  -- a refused event changes nothing
+  pub fit_refused : (d : Disk) (js : ℕ → List JournalEntry) (c : C) (ws : List ℕ) (run calls lines : ℕ) (s : Story) (n : ℕ) (cause : Cause) → Fit number is_busy knows_of left d js c ws run calls lines s → Fit number is_busy knows_of left d js c ws run calls (lines + 1) (told s (Refused n cause))
+  fit_refused d js c ws run calls lines s n cause h =
+      let size = h.same_size in
+      let fewer = h.fewer in
+      record {
+        kept = kept_same d d s (told s (Refused n cause)) h.kept (same_disk d) (record { tree = refl; weights = refl; calls = omega arith; point = point_told s (Refused n cause); fresh = h.kept.fresh });
+        logged = record { steps = h.logged.steps; slots = h.logged.slots };
+        same_weights = h.same_weights;
+        same_run = h.same_run;
+        same_calls = h.same_calls;
+        same_size = omega arith;
+        fewer = omega arith;
+        who = h.who;
+        alone = h.alone;
+        own = own_refused d s c n cause (is_busy c) h.own;
+      }
+
+  pub at_refused : (d : Disk) (js : ℕ → List JournalEntry) (c : C) (ws : List ℕ) (run calls lines : ℕ) (past : List Line) (n : ℕ) (cause : Cause) → At number is_busy knows_of left d js c ws run calls lines past → At number is_busy knows_of left d js c ws run calls (lines + 1) (past ++ Refused n cause ∷ [])
+  at_refused d js c ws run calls lines past n cause h = record {
+    legal = legal_lines past (Refused n cause ∷ []) h.legal (h.legal.whole, tt) refl;
+    in_time = in_time_append start past (Refused n cause ∷ []) h.in_time (tt, tt);
+    fit = subst (λ (x : Story). Fit number is_busy knows_of left d js c ws run calls (lines + 1) x) (sym (told_more start past (Refused n cause))) (fit_refused d js c ws run calls lines (story_of past) n cause h.fit);
+  }
+
+  -- the call that began
+  begun_call : Story → CallNo → Call → Running
+  begun_call s k call = record { number = k; call = call; since = s.size + 1; steps = 0; deeds = None }
+
+  idle_is : (X Y : Type 0) (b : Bool) → b ≡ false → MatchBool b X Y → Y
+  idle_is X Y true e h = absurd (let z : true ≡ false = e in cc)
+  idle_is X Y false e h = h
+
+  busy_is : (X Y : Type 0) (b : Bool) → b ≡ true → MatchBool b X Y → X
+  busy_is X Y true e h = h
+  busy_is X Y false e h = absurd (let z : false ≡ true = e in cc)
+
+  unknown_by : (d : Disk) (s : Story) (f : Gfid) (o : Option (List ℕ)) → Kept d s → s.tree.bytes f ≡ o → call_of f ≡ s.calls + 1 → o ≡ None
+  unknown_by d s f None k e h = refl
+  unknown_by d s f (Some bytes) k e h = absurd (let l = k.known f (λ q. let z : Some bytes ≡ None = sym e ∙ q in cc) in omega arith)
+
+  pub fit_called : (d : Disk) (js : ℕ → List JournalEntry) (old new : C) (ws : List ℕ) (run calls lines : ℕ) (s : Story) (k : CallNo) (call : Call) → is_busy old ≡ false → is_busy new ≡ true → number new ≡ number old → k.0 ≡ calls + 1 → ((x : Scene) → Begins (number old) ws run k call x → knows_of new x) → left new ≤ cost (length ws) call → Fit number is_busy knows_of left d js old ws run calls lines s → Fit number is_busy knows_of left d js new ws run (calls + 1) (lines + 1) (told s (Called k client call))
+  unfolding begun_call
+  fit_called d js old new ws run calls lines s k call idle busy same ek begins bound h =
+      let size = h.same_size in
+      let fewer = h.fewer in
+      let count = h.same_calls in
+      let x = Called k client call in
+      let r = begun_call s k call in
+      let works : Works knows_of left d (told s x) new = record {
+        mine = r;
+        runs = put_same nat_eq exact_nat s.running 0 (Some r);
+        number = omega arith;
+        begun = omega arith;
+        knows = begins (scene d (told s x) client r) (record { who = sym h.who; weights = h.same_weights; run = h.same_run; number = refl; call = refl; fresh = refl });
+        in_time = (let l : left new ≤ cost (length s.weights) call = subst (λ (y : List ℕ). left new ≤ cost (length y) call) (sym h.same_weights) bound in omega arith);
+      } in
+      record {
+        kept = kept_same d d s (told s x) h.kept (same_disk d) (record {
+          tree = refl;
+          weights = refl;
+          calls = omega arith;
+          point = point_told s x;
+          fresh = λ c o e1 e2 f e3. (let q = no_other s s.running h.alone (Some r) c o e1 in
+              let w : r ≡ o = (let z : Some r ≡ Some o = q.1 in cc) in
+              let e4 : r.number.0 ≡ o.number.0 = ap (λ (y : Running). y.number.0) w in
+              unknown_by d s f (s.tree.bytes f) h.kept refl (omega arith));
+        });
+        logged = record { steps = h.logged.steps; slots = h.logged.slots };
+        same_weights = h.same_weights;
+        same_run = h.same_run;
+        same_calls = omega arith;
+        same_size = omega arith;
+        fewer = omega arith;
+        who = same ∙ h.who;
+        alone = λ c ne. put_other nat_eq exact_nat s.running 0 (Some r) c ne ∙ h.alone c ne;
+        own = subst (λ (b : Bool). MatchBool b (Works knows_of left d (told s x) new) ((told s x).running 0 ≡ None)) (sym busy) works;
+      }
+
+  pub at_called : (d : Disk) (js : ℕ → List JournalEntry) (old new : C) (ws : List ℕ) (run calls lines : ℕ) (past : List Line) (k : CallNo) (call : Call) → is_busy old ≡ false → is_busy new ≡ true → number new ≡ number old → k.0 ≡ calls + 1 → ((x : Scene) → Begins (number old) ws run k call x → knows_of new x) → left new ≤ cost (length ws) call → At number is_busy knows_of left d js old ws run calls lines past → At number is_busy knows_of left d js new ws run (calls + 1) (lines + 1) (past ++ Called k client call ∷ [])
+  at_called d js old new ws run calls lines past k call idle busy same ek begins bound h =
+      let count = h.fit.same_calls in
+      record {
+        legal = legal_lines past (Called k client call ∷ []) h.legal ((h.legal.whole, omega arith, idle_is _ _ (is_busy old) idle h.fit.own), tt) refl;
+        in_time = in_time_append start past (Called k client call ∷ []) h.in_time (tt, tt);
+        fit = subst (λ (x : Story). Fit number is_busy knows_of left d js new ws run (calls + 1) (lines + 1) x) (sym (told_more start past (Called k client call))) (fit_called d js old new ws run calls lines (story_of past) k call idle busy same ek begins bound h.fit);
+      }
+
+  -- all that one request leads to
+  pub record Advanced (asks : C → Ask) (d : Disk) (s : Story) (c : C) (k : CallNo) (a : Ask) (r : Reply) (e : Disk) (ks : ℕ → List JournalEntry) : Type 0 where
+    pub works : Works knows_of left d s c
+    pub call_is : works.mine.number ≡ k
+    pub went : Went d s works.mine a r e ks (request_lines k client a r)
+    pub kept : Kept e (told_all s (request_lines k client a r))
+    pub before : Sound (scene d s client works.mine)
+    pub after : Sound (scene e (told_all s (request_lines k client a r)) client went.mine_then)
+    pub moved : Moved (scene d s client works.mine) (asks c) r (scene e (told_all s (request_lines k client a r)) client went.mine_then)
+
+  number_is : (k : CallNo) (m : CallNo) → m.0 ≡ k.0 → m ≡ k
+  number_is k m h = ap (λ (n : ℕ). let x : CallNo = record { 0 = n } in x) h
+
+  pub advance : (asks : C → Ask) (permitted : (c : C) (x : Scene) → Sound x → is_busy c ≡ true → knows_of c x → Permitted x (asks c)) (d e : Disk) (js ks : ℕ → List JournalEntry) (c : C) (ws : List ℕ) (run calls lines : ℕ) (past : List Line) (k : CallNo) (a : Ask) (r : Reply) (after : Contents) → is_busy c ≡ true → 0 < left c → a ≡ asks c → k.0 ≡ calls → lines < 2 ^ 64 → Serves client a.request (d.brick a.brick.0) r after → Changes d a.brick.0 after e → ks ≡ put nat_eq js a.brick.0 (js a.brick.0 ++ entry_of client k a.request r ∷ []) → At number is_busy knows_of left d js c ws run calls lines past → Advanced asks d (story_of past) c k a r e ks
+  advance asks permitted d e js ks c ws run calls lines past k a r new busy some ea ek small served changes noted h =
+      let s = story_of past in
+      let f = h.fit in
+      let fewer = f.fewer in
+      let count = f.same_calls in
+      let works : Works knows_of left d s c = busy_is _ _ (is_busy c) busy f.own in
+      let n = works.number in
+      let l = works.in_time in
+      let call_is : works.mine.number ≡ k = number_is k works.mine.number (omega arith) in
+      let before : Sound (scene d s client works.mine) = record { kept = f.kept; runs = works.runs; begun = works.begun } in
+      let sent : Sent d js s works.mine k a r e ks = record {
+        kept = f.kept;
+        logged = f.logged;
+        owed = h.legal.whole;
+        runs = works.runs;
+        number = call_is;
+        last = omega arith;
+        small = omega arith;
+        begun = works.begun;
+        alone = f.alone;
+        in_time = omega arith;
+        permitted = rw ea (permitted c (scene d s client works.mine) before busy works.knows);
+        new = new;
+        served = served;
+        changes = changes;
+        journals = noted;
+      } in
+      let w = went d js s works.mine k a r e ks sent in
+      let kept = kept_moved (scene d s client works.mine) (scene e (told_all s (request_lines k client a r)) client w.mine_then) a r w.moved before sent.permitted w.tale in
+      record {
+        works = works;
+        call_is = call_is;
+        went = w;
+        kept = kept;
+        before = before;
+        after = record { kept = kept; runs = w.runs; begun = w.begun };
+        moved = subst (λ (x : Ask). Moved (scene d s client works.mine) x r (scene e (told_all s (request_lines k client a r)) client w.mine_then)) ea w.moved;
+      }
+
+  pub at_on : (asks : C → Ask) (d e : Disk) (js ks : ℕ → List JournalEntry) (old new : C) (ws : List ℕ) (run calls lines : ℕ) (past : List Line) (k : CallNo) (a : Ask) (r : Reply) → (g : Advanced asks d (story_of past) old k a r e ks) → number new ≡ number old → is_busy new ≡ true → knows_of new (scene e (told_all (story_of past) (request_lines k client a r)) client g.went.mine_then) → left new < left old → At number is_busy knows_of left d js old ws run calls lines past → At number is_busy knows_of left e ks new ws run calls (lines + length (request_lines k client a r)) (past ++ request_lines k client a r)
+  at_on asks d e js ks old new ws run calls lines past k a r g same busy knows fewer_left h =
+      let s = story_of past in
+      let t = told_all s (request_lines k client a r) in
+      let w = g.went in
+      let f = h.fit in
+      let size = w.size in
+      let old_size = f.same_size in
+      let fewer = f.fewer in
+      let steps = w.steps in
+      let in_time = g.works.in_time in
+      let calls_then = w.tale.calls in
+      let count = f.same_calls in
+      let n = g.works.number in
+      let number_then : w.mine_then.number ≡ g.works.mine.number = w.moved.number in
+      let works : Works knows_of left e t new = record {
+        mine = w.mine_then;
+        runs = w.runs;
+        number = (let z = ap (λ (x : CallNo). x.0) number_then in omega arith);
+        begun = w.begun;
+        knows = knows;
+        in_time = subst (λ (x : Call). w.mine_then.steps + left new ≤ cost (length t.weights) x) (sym w.same_call)
+            (subst (λ (y : List ℕ). w.mine_then.steps + left new ≤ cost (length y) g.works.mine.call) (sym w.same_weights) (omega arith));
+      } in
+      let fit : Fit number is_busy knows_of left e ks new ws run calls (lines + length (request_lines k client a r)) t = record {
+        kept = g.kept;
+        logged = w.logged;
+        same_weights = w.same_weights ∙ f.same_weights;
+        same_run = w.same_run ∙ f.same_run;
+        same_calls = calls_then ∙ count;
+        same_size = omega arith;
+        fewer = omega arith;
+        who = same ∙ f.who;
+        alone = w.alone;
+        own = subst (λ (b : Bool). MatchBool b (Works knows_of left e t new) (t.running 0 ≡ None)) (sym busy) works;
+      } in
+      record {
+        legal = legal_lines past (request_lines k client a r) h.legal w.legal w.owed;
+        in_time = in_time_append start past (request_lines k client a r) h.in_time w.in_time;
+        fit = subst (λ (x : Story). Fit number is_busy knows_of left e ks new ws run calls (lines + length (request_lines k client a r)) x) (sym (told_append start past (request_lines k client a r))) fit;
+      }
+
+  pub at_answered : (asks : C → Ask) (d e : Disk) (js ks : ℕ → List JournalEntry) (old new : C) (ws : List ℕ) (run calls lines : ℕ) (past : List Line) (k : CallNo) (a : Ask) (r : Reply) (y : Finish) → (g : Advanced asks d (story_of past) old k a r e ks) → number new ≡ number old → is_busy new ≡ false → Earned y (scene e (told_all (story_of past) (request_lines k client a r)) client g.went.mine_then) → At number is_busy knows_of left d js old ws run calls lines past → At number is_busy knows_of left e ks new ws run calls (lines + length (request_lines k client a r) + 1) (past ++ (request_lines k client a r ++ Answered k client y.at y.answer ∷ []))
+  at_answered asks d e js ks old new ws run calls lines past k a r y g same idle earned h =
+      let s = story_of past in
+      let xs = request_lines k client a r in
+      let t = told_all s xs in
+      let x = Answered k client y.at y.answer in
+      let u = told t x in
+      let w = g.went in
+      let f = h.fit in
+      let size = w.size in
+      let old_size = f.same_size in
+      let fewer = f.fewer in
+      let calls_then = w.tale.calls in
+      let count = f.same_calls in
+      let number_then : w.mine_then.number ≡ k = w.moved.number ∙ g.call_is in
+      let all : told_all s (xs ++ x ∷ []) ≡ u = told_append s xs (x ∷ []) in
+      let legal_all : LegalFrom s (xs ++ x ∷ []) = legal_append s xs (x ∷ []) w.legal ((w.owed, (w.mine_then, record { runs = w.runs; number = number_then }, earned)), tt) in
+      let fit : Fit number is_busy knows_of left e ks new ws run calls (lines + length xs + 1) u = record {
+        kept = kept_same e e t u g.kept (same_disk e) (record {
+          tree = refl;
+          weights = refl;
+          calls = omega arith;
+          point = point_told t x;
+          fresh = λ c o e1 e2 b e3. absurd (let q = no_other t t.running w.alone None c o e1 in let z : None ≡ Some o = q.1 in cc);
+        });
+        logged = record { steps = w.logged.steps; slots = w.logged.slots };
+        same_weights = w.same_weights ∙ f.same_weights;
+        same_run = w.same_run ∙ f.same_run;
+        same_calls = calls_then ∙ count;
+        same_size = omega arith;
+        fewer = omega arith;
+        who = same ∙ f.who;
+        alone = λ c ne. put_other nat_eq exact_nat t.running 0 None c ne ∙ w.alone c ne;
+        own = subst (λ (b : Bool). MatchBool b (Works knows_of left e u new) (u.running 0 ≡ None)) (sym idle) (put_same nat_eq exact_nat t.running 0 None);
+      } in
+      record {
+        legal = legal_lines past (xs ++ x ∷ []) h.legal legal_all (ap (λ (z : Story). z.owed) all);
+        in_time = in_time_append start past (xs ++ x ∷ []) h.in_time (in_time_append s xs (x ∷ []) w.in_time (tt, tt));
+        fit = subst (λ (z : Story). Fit number is_busy knows_of left e ks new ws run calls (lines + length xs + 1) z) (sym (told_append start past (xs ++ x ∷ []) ∙ all)) fit;
+      }
+
+  -- what is known of the client's own call, as an event meets it
+  pub idle_call : (d : Disk) (js : ℕ → List JournalEntry) (c : C) (ws : List ℕ) (run calls lines : ℕ) (past : List Line) → is_busy c ≡ false → At number is_busy knows_of left d js c ws run calls lines past → (story_of past).running 0 ≡ None
+  idle_call d js c ws run calls lines past idle h = idle_is _ _ (is_busy c) idle h.fit.own
+
+  pub busy_call : (d : Disk) (js : ℕ → List JournalEntry) (c : C) (ws : List ℕ) (run calls lines : ℕ) (past : List Line) → is_busy c ≡ true → At number is_busy knows_of left d js c ws run calls lines past → Works knows_of left d (story_of past) c
+  busy_call d js c ws run calls lines past busy h = busy_is _ _ (is_busy c) busy h.fit.own

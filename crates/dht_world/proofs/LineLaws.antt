@@ -1,0 +1,75 @@
+-- One more line, or several: what stays legal and in time, and what a line of one client leaves to its program.
+use Rattle.std.proofs.Common.{◌≡◌, ℕ, Bool, true, false, List, [], ◌∷◌, ◌++◌, refl, sym, ap, ◌∙◌, arith}
+use Rattle.std.specs.Prelude.{None, nat_eq, if◌then◌else◌, map}
+use Rattle.dht_types.specs.Put.{put}
+use Rattle.dht_types.proofs.PutLaws.{put_elim, put_same, put_other, exact_nat}
+use Rattle.dht_types.specs.Gfid.{Entry}
+use Rattle.dht_types.specs.Tree.{Tree}
+use Rattle.dht_types.specs.Story.{Story, Running, told, told_all, start, story_of, LegalFrom, Legal, tree_after, weights_after, is_change}
+use Rattle.dht_types.proofs.StoryLaws.{told_append, legal_append, past_told}
+use Rattle.dht_types.specs.declared.identifiers.ClientNo.{ClientNo}
+use Rattle.dht_types.specs.declared.lines.Line.{Line}
+use Rattle.dht_brick.specs.declared.journal.JournalEntry.{JournalEntry}
+use Rattle.dht_section.specs.Scene.{Disk, Others}
+use Rattle.dht_world.specs.Bricks.{shown, changed_slots}
+use Rattle.dht_world.specs.Following.{InTimeFrom}
+use Rattle.dht_world.specs.World.{scene}
+
+pub in_time_append : (s : Story) (xs ys : List Line) → InTimeFrom s xs → InTimeFrom (told_all s xs) ys → InTimeFrom s (xs ++ ys)
+in_time_append s [] ys l k = k
+in_time_append s (x ∷ xs) ys l k = (l.0, in_time_append (told s x) xs ys l.1 k)
+
+-- lines that may come, after which no tree line is owed
+pub legal_lines : (past lines : List Line) → Legal past → LegalFrom (story_of past) lines → (told_all (story_of past) lines).owed ≡ None → Legal (past ++ lines)
+legal_lines past lines l k e = record {
+  from = legal_append start past lines l.from k;
+  whole = ap (λ (s : Story). s.owed) (told_append start past lines) ∙ e;
+}
+
+-- a line that leaves tree and volume as they are does what others may do
+pub others_line : (d : Disk) (s : Story) (c : ClientNo) (r : Running) (x : Line) → tree_after s x ≡ s.tree → weights_after s x ≡ s.weights → Others (scene d s c r) (scene d (told s x) c r)
+others_line d s c r x et ew = record {
+  who = refl;
+  mine = refl;
+  count = refl;
+  run = refl;
+  weights = ew;
+  locks = λ g key mode h. h;
+  slots = λ g n h b. refl;
+  names = λ g n h. ap (λ (t : Tree). t.names (g, n)) et;
+  dirs = λ g. ap (λ (t : Tree). t.dirs g) et;
+  later = omega arith;
+  past = past_told s x;
+}
+
+map_more : {A B : Type 0} (f : A → B) (xs : List A) (x : A) → map f (xs ++ x ∷ []) ≡ map f xs ++ f x ∷ []
+map_more f [] x = refl
+map_more f (y ∷ ys) x = ap (λ zs. f y ∷ zs) (map_more f ys x)
+
+pub shown_more : (es : List JournalEntry) (e : JournalEntry) → map shown (es ++ e ∷ []) ≡ map shown es ++ shown e ∷ []
+shown_more es e = map_more shown es e
+
+slots_by : (e : JournalEntry) (b : Bool) (xs : List Entry) → List Entry
+slots_by e b xs = if b then (e.gfid, e.name) ∷ xs else xs
+
+slots_front : (e : JournalEntry) (b : Bool) (xs ys : List Entry) → (if b then (e.gfid, e.name) ∷ (xs ++ ys) else (xs ++ ys)) ≡ (if b then (e.gfid, e.name) ∷ xs else xs) ++ ys
+slots_front e true xs ys = refl
+slots_front e false xs ys = refl
+
+pub slots_more : (es : List JournalEntry) (e : JournalEntry) → changed_slots (es ++ e ∷ []) ≡ changed_slots es ++ changed_slots (e ∷ [])
+slots_more [] e = refl
+slots_more (f ∷ fs) e = ap (λ xs. if is_change f.request f.reply then (f.gfid, f.name) ∷ xs else xs) (slots_more fs e) ∙ slots_front f (is_change f.request f.reply) (changed_slots fs) (changed_slots (e ∷ []))
+
+pub put_twice_at : {A : Type 0} (f : ℕ → A) (k : ℕ) (v w : A) (m : ℕ) → put nat_eq (put nat_eq f k v) k w m ≡ put nat_eq f k w m
+put_twice_at f k v w m = put_elim (λ x. x ≡ put nat_eq f k w m) nat_eq exact_nat (put nat_eq f k v) k w m
+    (λ e. sym (ap (put nat_eq f k w) e ∙ put_same nat_eq exact_nat f k w))
+    (λ ne. put_other nat_eq exact_nat f k v m ne ∙ sym (put_other nat_eq exact_nat f k w m ne))
+
+pub put_twice : {A : Type 0} (f : ℕ → A) (k : ℕ) (v w : A) → put nat_eq (put nat_eq f k v) k w ≡ put nat_eq f k w
+put_twice f k v w = λ i. λ m. put_twice_at f k v w m i
+
+-- a list that grew at one place
+pub grown_at : {A B : Type 0} (g : List A → List B) (f : ℕ → List A) (h : ℕ → List B) (k : ℕ) (xs : List A) (ys : List B) → ((i : ℕ) → g (f i) ≡ h i) → g xs ≡ ys → (i : ℕ) → g (put nat_eq f k xs i) ≡ put nat_eq h k ys i
+grown_at g f h k xs ys same new i = put_elim (λ x. g x ≡ put nat_eq h k ys i) nat_eq exact_nat f k xs i
+    (λ e. new ∙ sym (ap (put nat_eq h k ys) e ∙ put_same nat_eq exact_nat h k ys))
+    (λ ne. same i ∙ sym (put_other nat_eq exact_nat h k ys i ne))

@@ -1,0 +1,92 @@
+-- What holds of new bricks, before the first event after the volume line.
+use Rattle.std.proofs.Common.{◌≡◌, ◌≢◌, ◌<◌, ◌≤◌, ℕ, Bool, true, false, List, [], ◌∷◌, refl, sym, ap, ◌∙◌, subst, inl, inr, length, arith}
+use Rattle.std.specs.Prelude.{Option, Some, None, nat_eq, is_some, MatchBool}
+use Rattle.std.proofs.lemmas.Bool.{cases_lt}
+use Rattle.std.specs.FinMap.{get, empty, get-empty}
+use Rattle.dht_types.proofs.PutLaws.{exact_gfid}
+use Rattle.dht_types.proofs.StoryLaws.{point_told}
+use Rattle.dht_types.specs.Gfid.{Entry, root, home, same_gfid}
+use Rattle.dht_types.specs.Story.{Story, told, start}
+use Rattle.dht_types.specs.declared.identifiers.Gfid.{Gfid}
+use Rattle.dht_types.specs.declared.identifiers.ClientNo.{ClientNo}
+use Rattle.dht_types.specs.declared.lines.LayoutValue.{LayoutValue}
+use Rattle.dht_types.specs.declared.lines.Line.TheVariants.{Volume}
+use Rattle.dht_types.specs.declared.events.Event.TheVariants as event
+use Rattle.dht_brick.specs.Contents.{Contents, newborn, slot, dir, file, gfid_cmp, entry_cmp}
+use Rattle.dht_brick.specs.declared.journal.JournalEntry.{JournalEntry}
+use Rattle.dht_section.specs.Scene.{Disk, Scene, Kept, slot_at, file_at}
+use Rattle.dht_section.proofs.ContentsLaws.{gfid_total, gfid_exact, get_at, get_off}
+use Rattle.dht_section.proofs.KeptLaws.{cases}
+use Rattle.dht_world.specs.Bricks.{AreNewborn, nothing, Logged}
+use Rattle.dht_world.specs.Following.{Block}
+use Rattle.dht_world.specs.World.{Works, At}
+
+is_not : (g : Gfid) → g ≢ root → same_gfid g root ≡ false
+is_not g ne = by (same_gfid g root) refl
+  where
+    by : (b : Bool) → same_gfid g root ≡ b → b ≡ false
+    by true e = absurd (ne ((exact_gfid g root).0 e))
+    by false e = refl
+
+root_only : (v : Option LayoutValue) (g : Gfid) → is_some (dir (newborn v) g) ≡ same_gfid g root
+root_only v g = elim (cases same_gfid exact_gfid g root (same_gfid g root) refl) [
+  | inl e ↦ ap is_some (ap (dir (newborn v)) e ∙ get_at gfid_total empty root (record { value = v })) ∙ sym ((exact_gfid g root).1 e)
+  | inr ne ↦ ap is_some (get_off gfid_total gfid_exact empty root (record { value = v }) g ne ∙ get-empty gfid_cmp g) ∙ sym (is_not g ne)
+]
+
+-- what holds of a brick that is new, and of a place with no brick, holds everywhere
+each_new : (P : Contents → Type 0) (d : Disk) (js : ℕ → List JournalEntry) → AreNewborn d js → ((v : Option LayoutValue) → P (newborn v)) → P nothing → (b : ℕ) → P (d.brick b)
+each_new P d js h new none b = elim (cases_lt b d.count) [
+  | inl l ↦ (let w = h.contents b l in subst P (sym w.1) (new w.0))
+  | inr l ↦ subst P (sym (h.elsewhere b l)) none
+]
+
+no_slot : (d : Disk) (js : ℕ → List JournalEntry) → AreNewborn d js → (b : ℕ) (e : Entry) → slot_at d b e ≡ None
+no_slot d js h b e = each_new (λ c. slot c e ≡ None) d js h (λ v. get-empty entry_cmp e) (get-empty entry_cmp e) b
+
+no_file : (d : Disk) (js : ℕ → List JournalEntry) → AreNewborn d js → (b : ℕ) (f : Gfid) → file_at d b f ≡ None
+no_file d js h b f = each_new (λ c. file c f ≡ None) d js h (λ v. get-empty gfid_cmp f) (get-empty gfid_cmp f) b
+
+root_at : (d : Disk) (js : ℕ → List JournalEntry) → AreNewborn d js → (b : ℕ) (g : Gfid) → b < d.count → is_some (dir (d.brick b) g) ≡ same_gfid g root
+root_at d js h b g l = (let w = h.contents b l in ap (λ (c : Contents). is_some (dir c g)) w.1 ∙ root_only w.0 g)
+
+root_home : (d : Disk) (js : ℕ → List JournalEntry) → AreNewborn d js → 0 < d.count → (g : Gfid) → same_gfid g root ≡ is_some (dir (d.brick (home g)) g)
+root_home d js h some g = elim (cases_lt (home g) d.count) [
+  | inl l ↦ sym (root_at d js h (home g) g l)
+  | inr l ↦ is_not g (λ e. let z : home g ≡ 0 = ap home e in absurd (omega arith)) ∙ sym (ap (λ (c : Contents). is_some (dir c g)) (h.elsewhere (home g) l) ∙ ap is_some (get-empty gfid_cmp g))
+]
+
+kept_start : (d : Disk) (js : ℕ → List JournalEntry) (ws : List ℕ) → AreNewborn d js → d.count ≡ length ws → 0 < d.count → d.count ≤ 32 → Kept d (told start (Volume ws))
+kept_start d js ws h count some few = record {
+  stands = record { names = λ e b l. no_slot d js h b e; dirs = root_home d js h some; bytes = λ f b l. no_file d js h b f };
+  one = λ e b i m n lb li hb hi. absurd (let z : Some m ≡ None = sym hb ∙ no_slot d js h b e in cc);
+  roots = λ b g l. root_at d js h b g l;
+  some_brick = some;
+  counted = count;
+  few = few;
+  point = point_told start (Volume ws);
+  known = λ f ne. absurd (ne refl);
+  fresh = λ c r e1 e2 f e3. refl;
+}
+
+-- before the first event after the volume line
+pub at_start : {C : Type 0} (number : C → ClientNo) (is_busy : C → Bool) (knows_of : C → Scene → Type 0) (left : C → ℕ) (d : Disk) (js : ℕ → List JournalEntry) (c : C) (ws : List ℕ) → AreNewborn d js → d.count ≡ length ws → 0 < d.count → d.count ≤ 32 → number c ≡ record { 0 = 0 } → is_busy c ≡ false → At number is_busy knows_of left d js c ws 1 0 1 (Volume ws ∷ [])
+at_start number is_busy knows_of left d js c ws h count some few who idle = record {
+  legal = record { from = (refl, tt); whole = refl };
+  in_time = (tt, tt);
+  fit = record {
+    kept = kept_start d js ws h count some few;
+    logged = record { steps = λ b. ap (Rattle.std.specs.Prelude.map Rattle.dht_world.specs.Bricks.shown) (h.journals b); slots = λ b. ap Rattle.dht_world.specs.Bricks.changed_slots (h.journals b) };
+    same_weights = refl;
+    same_run = refl;
+    same_calls = refl;
+    same_size = refl;
+    fewer = omega arith;
+    who = who;
+    alone = λ e ne. refl;
+    own = subst (λ (b : Bool). MatchBool b (Works knows_of left d (told start (Volume ws)) c) ((told start (Volume ws)).running 0 ≡ None)) (sym idle) (refl {a = (told start (Volume ws)).running 0});
+  };
+}
+
+pub block_start : (s : Story) (ws : List ℕ) → Block s 1 (event.Volume ws) (Volume ws ∷ [])
+block_start s ws = record { first = Volume ws; more = []; all = refl; is_head = refl; are_under = tt }

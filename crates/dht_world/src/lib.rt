@@ -1,0 +1,7 @@
+//! The world: all bricks and the client, run by the events of a schedule. After every event the
+//! lines that were written are legal, follow from the events, agree with the bricks' journals, and
+//! the bricks stand for the lines' tree.
+#![tactic(auto)]
+
+pub mod notes;
+pub mod world;

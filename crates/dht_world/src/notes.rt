@@ -1,0 +1,59 @@
+//! The lines of one request, and of one event.
+
+ghost use Rattle.std.specs.Prelude.{◌≡◌, ◌+◌, ◌≤◌, ◌<◌, [], ◌∷◌, ◌++◌, vec_len, vec_capacity, length};
+ghost use Rattle.dht_section.specs.Scene.{step_of};
+ghost use Rattle.dht_world.specs.Lines.{request_lines};
+
+use dht_brick::machines::Ask;
+use dht_brick::requests::{NameRequest, Reply, Request};
+use dht_types::calls::TreeStep;
+use dht_types::identifiers::{CallNo, ClientNo};
+use dht_types::lines::Line;
+
+/// Appends a line, for which there is room.
+pub fn note(out: &mut Vec<Line>, line: Line)
+    requires { vec_len out.old < vec_capacity out.old }
+    ensures items { out.new.items ≡ out.old.items ++ line ∷ [] }
+    ensures room { vec_capacity out.old ≤ vec_capacity out.new }
+{
+    let _ = out.push(line);
+}
+
+/// The step of the tree that a reply to a request stands for, if any.
+pub fn step_of(request: &Request, reply: &Reply) -> Option<TreeStep>
+    ensures { result ≡ step_of request.now reply.now }
+{
+    match (reply, request) {
+        (Reply::Ok(_), Request::OnNames(NameRequest::Create(dir, name, file))) => {
+            Some(TreeStep::AddFile(*dir, *name, *file))
+        }
+        _ => None,
+    }
+}
+
+/// Appends the lines of a request that was served, and gives how many they are.
+pub fn note_request(
+    out: &mut Vec<Line>,
+    call: CallNo,
+    client: ClientNo,
+    ask: &Ask,
+    reply: &Reply,
+) -> u64
+    requires { vec_len out.old + 2 ≤ vec_capacity out.old }
+    ensures items { out.new.items ≡ out.old.items ++ request_lines call client ask.now reply.now }
+    ensures count { result ≡ length (request_lines call client ask.now reply.now) }
+    ensures few { result ≤ 2 }
+    ensures room { vec_capacity out.old ≤ vec_capacity out.new }
+{
+    note(
+        out,
+        Line::Stepped(call, client, ask.brick, ask.request.kind(), reply.kind()),
+    );
+    match step_of(&ask.request, reply) {
+        Some(step) => {
+            note(out, Line::Tree(call, step));
+            2
+        }
+        None => 1,
+    }
+}

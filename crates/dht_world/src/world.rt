@@ -1,0 +1,181 @@
+//! The world, and what an event makes of it.
+
+ghost use Rattle.std.specs.Prelude.{◌≡◌, ◌+◌, ◌≤◌, ◌<◌, ◌^◌, ℕ, true, false, List, [], ◌∷◌, ◌++◌, OnOk, OnErr, IfOk, vec_len, vec_capacity, length};
+ghost use Rattle.dht_types.specs.Story.{story_of};
+ghost use Rattle.dht_types.specs.declared.lines.Line.{Line};
+ghost use Rattle.dht_section.specs.Begins.{IsInRoot};
+ghost use Rattle.dht_world.specs.Bricks.{disk_of, journals_of, AreNewborn, ServedAt};
+ghost use Rattle.dht_world.specs.World.{CanHappen};
+ghost use Rattle.dht_world.specs.Places.{IsAt, Advances};
+ghost use Rattle.dht_world.specs.Following.{Block};
+
+use super::notes::{note, note_request};
+use dht_brick::brick::Brick;
+use dht_brick::machines::Ask;
+use dht_brick::requests::Reply;
+use dht_section::caller::Caller;
+use dht_types::calls::Call;
+use dht_types::events::Event;
+use dht_types::identifiers::{CallNo, ClientNo};
+use dht_types::lines::{Cause, Line};
+use dht_types::volumes::Weights;
+use std::alloc::AllocError;
+
+/// The bricks of a volume, and a client.
+#[derive(Drop)]
+pub struct World<B, C> {
+    /// The bricks, in the order of their numbers.
+    pub bricks: Vec<B>,
+    /// The one client, whose number is 0.
+    pub client: C,
+    /// The bricks' weights.
+    pub weights: Weights,
+    /// The volume's run number.
+    pub run: u32,
+    /// How many calls were accepted.
+    pub calls: u64,
+    /// How many lines were written.
+    pub lines: u64,
+}
+
+/// The number of the one client.
+const CLIENT: ClientNo = ClientNo(0);
+
+/// Has one brick serve a request, once there is room for the journal's entry.
+fn serve_at<B: Brick>(
+    bricks: &mut Vec<B>,
+    client: ClientNo,
+    call: CallNo,
+    ask: &Ask,
+) -> Result<Reply, AllocError>
+    requires { ask.now.brick.0 < vec_len bricks.old }
+    ensures ok { IfOk result (λ r. ServedAt B.contents B.journal client call ask.now bricks.old.items r bricks.new.items) }
+    ensures disk { OnErr result (disk_of B.contents bricks.new.items ≡ disk_of B.contents bricks.old.items) }
+    ensures journals { OnErr result (journals_of B.journal bricks.new.items ≡ journals_of B.journal bricks.old.items) }
+{
+    let brick = &mut bricks[usize::from(ask.brick.0)];
+    brick.make_room()?;
+    Ok(brick.serve(client, call, &ask.request))
+}
+
+impl<B: Brick, C: Caller> World<B, C> {
+    /// The world of new bricks of these weights, in the first run, after the volume's line.
+    pub fn new(weights: Weights, bricks: Vec<B>, client: C) -> World<B, C>
+        requires newborn { AreNewborn (disk_of B.contents bricks.items) (journals_of B.journal bricks.items) }
+        requires counted { vec_len bricks ≡ length weights }
+        requires some { 0 < length weights }
+        requires few { length weights ≤ 32 }
+        requires who { C.number client ≡ record { 0 = 0 } }
+        requires idle { C.is_busy client ≡ false }
+        ensures at { IsAt B.contents B.journal C.number C.is_busy C.knows C.left result (Line.Volume weights ∷ []) }
+        ensures lines { result.lines ≡ 1 }
+    {
+        World {
+            bricks,
+            client,
+            weights,
+            run: 1,
+            calls: 0,
+            lines: 1,
+        }
+    }
+
+    /// The bricks.
+    pub fn into_bricks(self) -> Vec<B>
+    where
+        C: Drop,
+        ensures { result ≡ self.bricks }
+    {
+        self.bricks
+    }
+
+    /// The event of this line of the schedule was refused.
+    fn refuse(&mut self, line: u64, cause: Cause, out: &mut Vec<Line>)
+        requires room { vec_len out.old + 3 ≤ vec_capacity out.old }
+        requires few { self.old.lines + 3 < 2 ^ 64 }
+        ensures lines { out.new.items ≡ out.old.items ++ Line.Refused line cause ∷ [] }
+        ensures grows { self.new.lines ≤ self.old.lines + 3 }
+        ensures at { (past : List Line)
+            → IsAt B.contents B.journal C.number C.is_busy C.knows C.left self.old past
+            → IsAt B.contents B.journal C.number C.is_busy C.knows C.left self.new (past ++ Line.Refused line cause ∷ []) }
+    {
+        note(out, Line::Refused(line, cause));
+        self.lines += 1;
+    }
+
+    /// The client calls.
+    fn call(&mut self, what: &Call, line: u64, out: &mut Vec<Line>)
+        requires room { vec_len out.old + 3 ≤ vec_capacity out.old }
+        requires few { self.old.lines + 3 < 2 ^ 64 }
+        requires root { IsInRoot what.now }
+        requires at { (past : List Line) × IsAt B.contents B.journal C.number C.is_busy C.knows C.left self.old past }
+        ensures advances { (past : List Line)
+            → IsAt B.contents B.journal C.number C.is_busy C.knows C.left self.old past
+            → (lines : List Line) × (out.new.items ≡ out.old.items ++ lines) × Advances B.contents B.journal C.number C.is_busy C.knows C.left self.new line (Event.Call 0 what.now) past lines }
+        ensures grows { self.new.lines ≤ self.old.lines + 3 }
+    {
+        if !self.client.is_idle() {
+            return self.refuse(line, Cause::Busy, out);
+        }
+        let number = CallNo(self.calls + 1);
+        self.client.start(&self.weights, self.run, number, what);
+        note(out, Line::Called(number, CLIENT, *what));
+        self.calls += 1;
+        self.lines += 1;
+    }
+
+    /// The next request of the client's call is carried out.
+    fn step(&mut self, line: u64, out: &mut Vec<Line>) -> Result<(), AllocError>
+        requires room { vec_len out.old + 3 ≤ vec_capacity out.old }
+        requires few { self.old.lines + 3 < 2 ^ 64 }
+        requires at { (past : List Line) × IsAt B.contents B.journal C.number C.is_busy C.knows C.left self.old past }
+        ensures ok { OnOk result ((past : List Line)
+            → IsAt B.contents B.journal C.number C.is_busy C.knows C.left self.old past
+            → (lines : List Line) × (out.new.items ≡ out.old.items ++ lines) × Advances B.contents B.journal C.number C.is_busy C.knows C.left self.new line (Event.Step 0) past lines) }
+        ensures err { OnErr result ((past : List Line)
+            → IsAt B.contents B.journal C.number C.is_busy C.knows C.left self.old past
+            → IsAt B.contents B.journal C.number C.is_busy C.knows C.left self.new past) }
+        ensures none { OnErr result (out.new.items ≡ out.old.items) }
+        ensures grows { self.new.lines ≤ self.old.lines + 3 }
+    {
+        if self.client.is_idle() {
+            self.refuse(line, Cause::Idle, out);
+            return Ok(());
+        }
+        let call = CallNo(self.calls);
+        let ask = self.client.next();
+        let reply = serve_at(&mut self.bricks, CLIENT, call, &ask)?;
+        self.lines += note_request(out, call, CLIENT, &ask, &reply);
+        if let Some(finish) = self.client.take(reply, self.lines) {
+            note(out, Line::Answered(call, CLIENT, finish.at, finish.answer));
+            self.lines += 1;
+        }
+        Ok(())
+    }
+
+    /// One event, that of this line of the schedule; its lines are appended. Where memory runs out,
+    /// nothing has happened.
+    pub fn event(&mut self, event: &Event, line: u64, out: &mut Vec<Line>) -> Result<(), AllocError>
+        requires can { CanHappen event.now }
+        requires few { self.old.lines + 3 < 2 ^ 64 }
+        requires at { (past : List Line) × IsAt B.contents B.journal C.number C.is_busy C.knows C.left self.old past }
+        ensures ok { OnOk result ((past : List Line)
+            → IsAt B.contents B.journal C.number C.is_busy C.knows C.left self.old past
+            → (lines : List Line) × (out.new.items ≡ out.old.items ++ lines) × Advances B.contents B.journal C.number C.is_busy C.knows C.left self.new line event.now past lines) }
+        ensures err { OnErr result ((past : List Line)
+            → IsAt B.contents B.journal C.number C.is_busy C.knows C.left self.old past
+            → IsAt B.contents B.journal C.number C.is_busy C.knows C.left self.new past) }
+        ensures none { OnErr result (out.new.items ≡ out.old.items) }
+        ensures grows { self.new.lines ≤ self.old.lines + 3 }
+    {
+        out.reserve(3)?;
+        match event {
+            Event::Call(_, what) => {
+                self.call(what, line, out);
+                Ok(())
+            }
+            Event::Step(_) => self.step(line, out),
+            Event::Volume(_) => unreachable!(),
+        }
+    }
+}
