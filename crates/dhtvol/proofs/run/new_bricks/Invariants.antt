@@ -1,0 +1,11 @@
+use Rattle.std.proofs.Common.{◌≡◌}
+use Rattle.std.specs.Prelude.{vec_len}
+use Rattle.dht_brick.specs.Plain.{plain_contents, plain_journal}
+use Rattle.dhtvol.proofs.NewbornLaws.{AreNew}
+use Rattle.dhtvol.proofs.run.new_bricks.Given as goal
+
+abbrev pub invariant-loop-weight : goal.invariant-loop-weight
+invariant-loop-weight l = record {
+  count : vec_len l.bricks ≡ l.weight-index;
+  new : AreNew plain_contents plain_journal l.bricks.items;
+}

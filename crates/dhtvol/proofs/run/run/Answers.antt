@@ -1,0 +1,10 @@
+use Rattle.std.proofs.Common.{rules}
+use Rattle.dht_brick.specs.Plain.{plain_contents, plain_journal}
+use Rattle.dhtvol.specs.Replay.{StopsAtLine}
+use Rattle.dhtvol.proofs.WholeLaws.{not_at_line}
+use Rattle.dhtvol.proofs.run.run.Goals as goal
+
+pub returns-clause-complete : goal.returns-clause-complete
+returns-clause-complete g c = λ is_replay events some schedule limit text q.
+    let stops : StopsAtLine plain_contents plain_journal c.if-is_replay.shelf.mem.items (g.S.Source.left c.args.source.now) (g.K.Sink.taken c.args.sink.now) (g.K.Sink.taken c.if-is_replay.sink) = search rules in
+    not_at_line plain_contents plain_journal c.if-is_replay.shelf.mem.items _ _ _ events c.one_line.ensures some schedule limit text stops

@@ -1,0 +1,9 @@
+pub mod Buffer
+pub mod Lines
+pub mod Memory
+pub mod NextEvent
+pub mod Outside
+pub mod Program
+pub mod Replay
+pub mod Status
+pub mod SoFar

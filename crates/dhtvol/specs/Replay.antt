@@ -1,0 +1,135 @@
+-- What a run over the bytes of a schedule does: which events it carries out, and what it writes.
+use Rattle.std.specs.Prelude.{ℕ, ◌+◌, ◌<◌, ◌≤◌, ◌≡◌, ◌≢◌, ◌⊎◌, Option, Some, None, IfSome, List, [], ◌∷◌, ◌++◌, length, take}
+use Rattle.dht_types.specs.Cost.{cost}
+use Rattle.dht_types.specs.Story.{Story, Running, Legal, story_of, start}
+use Rattle.dht_types.specs.declared.identifiers.BrickNo.{BrickNo}
+use Rattle.dht_types.specs.declared.events.Event.{Event}
+use Rattle.dht_types.specs.declared.events.Event.TheVariants.{Volume, Call, Step}
+use Rattle.dht_types.specs.declared.lines.Line.{Line}
+use Rattle.dht_types.specs.declared.lines.DumpLine.{DumpLine}
+use Rattle.dht_types.specs.declared.lines.DumpLine.TheVariants.{End}
+use Rattle.dht_brick.specs.Contents.{Contents}
+use Rattle.dht_brick.specs.Dump.{dump_of}
+use Rattle.dht_brick.specs.declared.journal.JournalEntry.{JournalEntry}
+use Rattle.dht_section.specs.Scene.{Disk, Stands}
+use Rattle.dht_sched.specs.Schedule.{schedule_text, IsScheduled}
+use Rattle.dht_sched.specs.Transcript.{lines_text, dump_lines_text, malformed_text}
+use Rattle.dht_world.specs.Bricks.{disk_of, journals_of, Logged}
+use Rattle.dht_world.specs.Following.{ComesFrom, InTimeFrom}
+use Rattle.dhtvol.specs.Lines.{HasNoNewline}
+use Rattle.dhtvol.specs.Outside.{before_told, after_told, IsAtEnd}
+use Rattle.dhtvol.specs.declared.ending.Ending.{Ending}
+use Rattle.dhtvol.specs.declared.ending.Ending.TheVariants.{Done, Usage, Malformed, SourceFailed, SinkFailed, OutOfMemory}
+use Rattle.dhtvol.specs.declared.lines.TheConstants.{INPUT_LIMIT}
+
+-- the text of events, a line each
+abbrev pub schedule_of : List Event → List ℕ
+schedule_of [] = []
+schedule_of (e ∷ es) = schedule_text e ++ 10 ∷ schedule_of es
+
+-- the volume comes first and alone
+abbrev pub IsAfterFirst : Event → Type 0
+IsAfterFirst (Volume w) = ⊥
+IsAfterFirst (Call c call) = Unit {0}
+IsAfterFirst (Step c) = Unit {0}
+
+abbrev pub IsFirst : Event → Type 0
+IsFirst (Volume w) = Unit {0}
+IsFirst (Call c call) = ⊥
+IsFirst (Step c) = ⊥
+
+-- the event has a line, and may come after these
+abbrev pub MayCome : List Event → Event → Type 0
+MayCome [] e = IsScheduled e × IsFirst e
+MayCome (first ∷ more) e = IsScheduled e × IsAfterFirst e
+
+-- the events are those of a schedule
+abbrev pub AreAfterFirst : List Event → Type 0
+AreAfterFirst [] = Unit {0}
+AreAfterFirst (e ∷ es) = IsScheduled e × IsAfterFirst e × AreAfterFirst es
+
+abbrev pub IsSchedule : List Event → Type 0
+IsSchedule [] = Unit {0}
+IsSchedule (e ∷ es) = IsScheduled e × IsFirst e × AreAfterFirst es
+
+-- after these events, what is left of the text does not begin with a line that may come next, within the limit of the input; and it is not a schedule's end
+pub record IsMalformed (events : List Event) (rest : List ℕ) : Type 0 where
+  pub no_end : rest ≡ [] → events ≡ []
+  pub no_line : (e : Event) (more : List ℕ) → MayCome events e → rest ≡ schedule_text e ++ 10 ∷ more → length (schedule_of events) + length (schedule_text e) + 1 ≤ INPUT_LIMIT → ⊥
+
+-- the lines are a transcript of the events, over bricks that contain and served this in the end: they are legal, come from the events one by one, and agree with the bricks' journals; the bricks stand for the lines' tree; and each call answers in time
+pub record IsTranscript (events : List Event) (lines : List Line) (d : Disk) (js : ℕ → List JournalEntry) : Type 0 where
+  pub legal : Legal lines
+  pub follows : ComesFrom start 1 events lines
+  pub logged : Logged js (story_of lines)
+  pub stands : events ≢ [] → Stands d (story_of lines).tree
+  pub in_time : InTimeFrom start lines
+  pub answers : (c : ℕ) (r : Running) → (story_of lines).running c ≡ Some r → r.steps < cost (length (story_of lines).weights) r.call
+  pub counted : d.count ≡ length (story_of lines).weights
+
+-- the dump of bricks, numbered from here
+abbrev pub dump_from : {B : Type 0} → (B → Contents) → ℕ → List B → List DumpLine
+dump_from contents n [] = []
+dump_from contents n (b ∷ bricks) = dump_of (record { 0 = n }) (contents b) ++ dump_from contents (n + 1) bricks
+
+-- the dump of all bricks, and its end
+abbrev pub dump_all : {B : Type 0} → (B → Contents) → List B → List DumpLine
+dump_all contents bricks = dump_from contents 0 bricks ++ End ∷ []
+
+-- what every run has done: a schedule's events were carried out, which are the front of the text; the lines are their transcript; what is left of the text is this
+pub record Replays (contents_of : Disk) (js : ℕ → List JournalEntry) (text rest : Option (List ℕ)) (events : List Event) (lines : List Line) : Type 0 where
+  pub schedule : IsSchedule events
+  pub limit : length (schedule_of events) ≤ INPUT_LIMIT
+  pub transcript : IsTranscript events lines contents_of js
+  pub front : text ≡ before_told (schedule_of events) rest
+
+-- the text was carried out whole, and the transcript and the dump were written
+pub record IsDone {B : Type 0} (contents : B → Contents) (journal : B → List JournalEntry) (bricks : List B) (text left before taken : Option (List ℕ)) : Type 0 where
+  pub events : List Event
+  pub lines : List Line
+  pub replays : Replays (disk_of contents bricks) (journals_of journal bricks) text left events lines
+  pub some : events ≢ []
+  pub at_end : IsAtEnd left
+  pub written : taken ≡ after_told before (lines_text lines ++ dump_lines_text (dump_all contents bricks))
+
+-- the first line that is none was reached; all before it was carried out, and written with a last line that has its number
+pub record StopsAtLine {B : Type 0} (contents : B → Contents) (journal : B → List JournalEntry) (bricks : List B) (text before taken : Option (List ℕ)) : Type 0 where
+  pub events : List Event
+  pub lines : List Line
+  pub rest : Option (List ℕ)
+  pub replays : Replays (disk_of contents bricks) (journals_of journal bricks) text rest events lines
+  pub malformed : IfSome rest (IsMalformed events)
+  pub written : taken ≡ after_told before (lines_text lines ++ malformed_text (length events + 1))
+
+-- the source failed; the events are all whole lines that it gave, and their whole transcript was written
+pub record StopsAtSource {B : Type 0} (contents : B → Contents) (journal : B → List JournalEntry) (bricks : List B) (text left before taken : Option (List ℕ)) : Type 0 where
+  pub events : List Event
+  pub lines : List Line
+  pub pending : List ℕ
+  pub replays : Replays (disk_of contents bricks) (journals_of journal bricks) text (before_told pending left) events lines
+  pub no_line : HasNoNewline pending
+  pub written : taken ≡ after_told before (lines_text lines)
+
+-- what may stand at the end of the lines: nothing yet, the dump, or the line of a malformed line
+abbrev pub IsLast : {B : Type 0} → (B → Contents) → List B → ℕ → List ℕ → Type 0
+IsLast contents bricks n last = (last ≡ []) ⊎ (last ≡ dump_lines_text (dump_all contents bricks)) ⊎ (last ≡ malformed_text n)
+
+-- the run was cut short; what was written is a front of the lines' text, and of their last lines
+pub record IsCutShort {B : Type 0} (contents : B → Contents) (journal : B → List JournalEntry) (bricks : List B) (text before taken : Option (List ℕ)) : Type 0 where
+  pub events : List Event
+  pub lines : List Line
+  pub rest : Option (List ℕ)
+  pub last : List ℕ
+  pub replays : Replays (disk_of contents bricks) (journals_of journal bricks) text rest events lines
+  pub is_last : IsLast contents bricks (length events + 1) last
+  pub many : ℕ
+  pub written : taken ≡ after_told before (take many (lines_text lines ++ last))
+
+-- how a replay ends: by its ending, what was carried out and what was written
+abbrev pub EndsAs : {B : Type 0} → (B → Contents) → (B → List JournalEntry) → List B → (text left before taken : Option (List ℕ)) → Ending → Type 0
+EndsAs contents journal bricks text left before taken Done = IsDone contents journal bricks text left before taken
+EndsAs contents journal bricks text left before taken Malformed = StopsAtLine contents journal bricks text before taken
+EndsAs contents journal bricks text left before taken SourceFailed = StopsAtSource contents journal bricks text left before taken
+EndsAs contents journal bricks text left before taken SinkFailed = IsCutShort contents journal bricks text before taken
+EndsAs contents journal bricks text left before taken OutOfMemory = IsCutShort contents journal bricks text before taken
+EndsAs contents journal bricks text left before taken Usage = ⊥

@@ -1,0 +1,198 @@
+//! The one call that the program makes.
+
+ghost use Rattle.std.specs.Prelude.{◌≡◌, ◌≢◌, ◌⊎◌, ◌+◌, ◌<◌, ◌≤◌, ℕ, Option, Some, List, [], ◌∷◌, IfOk, IfErr, OnOk, OnErr, IfSome, length, take, vec_len};
+ghost use Rattle.dht_types.specs.declared.events.Event.{Event as AnEvent};
+ghost use Rattle.dht_types.specs.declared.lines.Line.{Line as ALine};
+ghost use Rattle.dht_brick.specs.Plain.{plain_contents, plain_journal};
+ghost use Rattle.dht_client.specs.Client.{client_number, client_is_busy, client_left, ClientKnows};
+ghost use Rattle.dht_sched.specs.Schedule.{IsScheduledVolume};
+ghost use Rattle.dht_sched.specs.Transcript.{usage_text};
+ghost use Rattle.dht_world.specs.Bricks.{disk_of, journals_of, AreNewborn};
+ghost use Rattle.dht_world.specs.Places.{IsAt};
+ghost use Rattle.dhtvol.specs.declared.lines.TheConstants.{INPUT_LIMIT};
+ghost use Rattle.dhtvol.specs.Lines.{Reader, input_of, HasNoNewline};
+ghost use Rattle.dhtvol.specs.NextEvent.{CutsEvent};
+ghost use Rattle.dhtvol.specs.Outside.{HasFault, after_told, IsAtEnd};
+ghost use Rattle.dhtvol.specs.Program.{IsReplay, IsStatus};
+ghost use Rattle.dhtvol.specs.Replay.{EndsAs, IsMalformed, IsDone, StopsAtLine, StopsAtSource, IsCutShort, IsSchedule, schedule_of};
+ghost use Rattle.dhtvol.specs.SoFar.{SoFar, EndsSo};
+
+use crate::ending::Ending;
+use crate::events::next_event;
+use crate::lines::LineReader;
+use crate::output::write_all;
+use crate::replay::{play, write_malformed};
+use crate::sink::Sink;
+use crate::source::Source;
+use crate::words::{Word, is_replay};
+use dht_brick::plain::PlainBrick;
+use dht_client::client::Client;
+use dht_sched::{one_line, print_usage};
+use dht_types::events::Event;
+use dht_types::identifiers::ClientNo;
+use dht_types::lines::LayoutValue;
+use dht_types::volumes::Weights;
+use dht_world::world::World;
+use std::alloc::{AllocError, Global};
+
+/// Where the bricks of a replay stand afterwards.
+#[derive(Drop)]
+pub struct Shelf {
+    /// Bricks in memory.
+    pub mem: Vec<PlainBrick>,
+}
+
+/// The range of all hashes, with commit word 0.
+const WHOLE: LayoutValue = LayoutValue([0, 0, 0, 0, 0, 0, 0, 0, 0, 0, 0, 0, 255, 255, 255, 255]);
+
+/// New bricks of these weights. The root has the whole range on each brick with weight.
+fn new_bricks(alloc: Global, weights: &[u16]) -> Result<Vec<PlainBrick>, AllocError>
+    ensures count { IfOk result (λ v. vec_len v ≡ length weights.now) }
+    ensures newborn { IfOk result (λ v. AreNewborn (disk_of plain_contents v.items) (journals_of plain_journal v.items)) }
+{
+    let mut bricks = Vec::new(alloc);
+    for weight in weights {
+        let value = if *weight > 0 { Some(WHOLE) } else { None };
+        bricks.push(PlainBrick::new(alloc, value)?)?;
+    }
+    Ok(bricks)
+}
+
+/// The weights of the volume line, the first of the schedule.
+fn first_line<S: Source>(
+    alloc: Global,
+    reader: &mut LineReader,
+    source: &mut S,
+) -> Result<Weights, Ending>
+    requires { reader.old.cut ≡ 0 }
+    ensures volume { IfOk result (λ w. CutsEvent reader.old reader.new (S.left source.old) (S.left source.new) (AnEvent.Volume w)) }
+    ensures malformed { result ≡ Err Ending.Malformed → IfSome (input_of reader.old (S.left source.old)) (IsMalformed []) }
+    ensures failed { result ≡ Err Ending.SourceFailed → HasFault (S.faults source.old) (S.faults source.new)
+        × (input_of reader.new (S.left source.new) ≡ input_of reader.old (S.left source.old)) × HasNoNewline reader.new.pending }
+    ensures no_other { (result ≢ Err Ending.Done) × (result ≢ Err Ending.Usage) × (result ≢ Err Ending.SinkFailed) }
+    ensures faults { S.faults source.old ≤ S.faults source.new }
+{
+    match next_event(alloc, reader, source) {
+        Ok(Some(Event::Volume(weights))) => Ok(weights),
+        Ok(_) => Err(Ending::Malformed),
+        Err(ending) => Err(ending),
+    }
+}
+
+/// Replays a schedule whose volume has these weights, behind its first line.
+fn replay_volume<S: Source, K: Sink>(
+    alloc: Global,
+    weights: Weights,
+    reader: &mut LineReader,
+    source: &mut S,
+    sink: &mut K,
+    shelf: &mut Shelf,
+) -> Ending
+    requires volume { IsScheduledVolume weights }
+    requires first { (text : Option (List ℕ)) × ((old : Reader) × ((old.cut ≡ 0) × (old.pending ≡ []) × CutsEvent old reader.old text (S.left source.old) (AnEvent.Volume weights))) }
+    requires empty { shelf.old.mem.items ≡ [] }
+    ensures ends { (text : Option (List ℕ)) (old : Reader) → old.cut ≡ 0 → old.pending ≡ [] → CutsEvent old reader.old text (S.left source.old) (AnEvent.Volume weights)
+        → EndsAs plain_contents plain_journal shelf.new.mem.items text (S.left source.new) (K.taken sink.old) (K.taken sink.new) result }
+    ensures source { result ≡ Ending.SourceFailed → HasFault (S.faults source.old) (S.faults source.new) }
+    ensures sink { result ≡ Ending.SinkFailed → HasFault (K.faults sink.old) (K.faults sink.new) }
+{
+    let Ok(bricks) = new_bricks(alloc, weights.as_slice()) else {
+        return Ending::OutOfMemory;
+    };
+    let Ok(shown) = weights.copied(alloc) else {
+        return Ending::OutOfMemory;
+    };
+    let mut world = World::new(weights, bricks, Client::new(ClientNo(0)));
+    let ending = play(alloc, shown, &mut world, reader, source, sink);
+    shelf.mem = world.into_bricks();
+    ending
+}
+
+/// Replays the schedule that the source gives.
+fn replay<S: Source, K: Sink>(
+    alloc: Global,
+    source: &mut S,
+    sink: &mut K,
+    shelf: &mut Shelf,
+) -> Ending
+    requires empty { shelf.old.mem.items ≡ [] }
+    ensures ends { EndsAs plain_contents plain_journal shelf.new.mem.items (S.left source.old) (S.left source.new) (K.taken sink.old) (K.taken sink.new) result }
+    ensures source { result ≡ Ending.SourceFailed → HasFault (S.faults source.old) (S.faults source.new) }
+    ensures sink { result ≡ Ending.SinkFailed → HasFault (K.faults sink.old) (K.faults sink.new) }
+{
+    let Ok(mut reader) = LineReader::new(alloc) else {
+        return Ending::OutOfMemory;
+    };
+    match first_line(alloc, &mut reader, source) {
+        Ok(weights) => replay_volume(alloc, weights, &mut reader, source, sink, shelf),
+        Err(ending) => match ending {
+            Ending::Malformed => match write_malformed(alloc, 1, sink) {
+                Ok(()) => Ending::Malformed,
+                Err(fault) => fault,
+            },
+            other => other,
+        },
+    }
+}
+
+/// Writes what the program can be asked for.
+fn refuse<K: Sink>(alloc: Global, sink: &mut K) -> Ending
+    ensures ending { (result ≡ Ending.Usage) ⊎ ((result ≡ Ending.SinkFailed) ⊎ (result ≡ Ending.OutOfMemory)) }
+    ensures written { result ≡ Ending.Usage → K.taken sink.new ≡ after_told (K.taken sink.old) usage_text }
+    ensures sink { result ≡ Ending.SinkFailed → HasFault (K.faults sink.old) (K.faults sink.new) }
+    ensures front { (n : ℕ) × (K.taken sink.new ≡ after_told (K.taken sink.old) (take n usage_text)) }
+{
+    let mut text = Vec::new(alloc);
+    if print_usage(&mut text).is_err() {
+        return Ending::OutOfMemory;
+    }
+    match write_all(sink, &text) {
+        Ok(()) => Ending::Usage,
+        Err(_) => Ending::SinkFailed,
+    }
+}
+
+/// Does what the words say, over this source and this sink, and gives the program's status. For the
+/// word `replay` it replays the schedule that the source gives, over new bricks that stand on the
+/// shelf afterwards.
+///
+/// Status 0: the source's text was carried out whole. 2: the words are no command. 3: a line that is
+/// none was reached. 4: the source failed. 5: the sink failed. 6: memory ran out.
+pub fn run<S: Source, K: Sink>(
+    alloc: Global,
+    words: &[Word],
+    source: &mut S,
+    sink: &mut K,
+    shelf: &mut Shelf,
+) -> u8
+    requires empty { shelf.old.mem.items ≡ [] }
+
+    // The headline, by the status of a replay.
+    ensures whole { IsReplay words.now → result ≡ 0 → IsDone plain_contents plain_journal shelf.new.mem.items (S.left source.old) (S.left source.new) (K.taken sink.old) (K.taken sink.new) }
+    ensures malformed { IsReplay words.now → result ≡ 3 → StopsAtLine plain_contents plain_journal shelf.new.mem.items (S.left source.old) (K.taken sink.old) (K.taken sink.new) }
+    ensures source_failed { IsReplay words.now → result ≡ 4 → StopsAtSource plain_contents plain_journal shelf.new.mem.items (S.left source.old) (S.left source.new) (K.taken sink.old) (K.taken sink.new) }
+    ensures cut_short { IsReplay words.now → (result ≡ 5) ⊎ (result ≡ 6) → IsCutShort plain_contents plain_journal shelf.new.mem.items (S.left source.old) (K.taken sink.old) (K.taken sink.new) }
+
+    // A text that is a schedule's whole is not refused.
+    ensures complete { IsReplay words.now → (events : List AnEvent) → events ≢ [] → IsSchedule events → length (schedule_of events) ≤ INPUT_LIMIT → S.left source.old ≡ Some (schedule_of events) → result ≢ 3 }
+
+    // The causes of the statuses.
+    ensures status { IsStatus result }
+    ensures usage { result ≡ 2 → ¬ IsReplay words.now }
+    ensures no_command { ¬ IsReplay words.now → (result ≡ 2) ⊎ ((result ≡ 5) ⊎ (result ≡ 6)) }
+    ensures usage_written { result ≡ 2 → K.taken sink.new ≡ after_told (K.taken sink.old) usage_text }
+    ensures usage_front { ¬ IsReplay words.now → (n : ℕ) × (K.taken sink.new ≡ after_told (K.taken sink.old) (take n usage_text)) }
+    ensures source_cause { result ≡ 4 → HasFault (S.faults source.old) (S.faults source.new) }
+    ensures sink_cause { result ≡ 5 → HasFault (K.faults sink.old) (K.faults sink.new) }
+{
+    one_line();
+    let ending = if is_replay(words) {
+        replay(alloc, source, sink, shelf)
+    } else {
+        refuse(alloc, sink)
+    };
+    ending.status()
+}
+
+#[cfg(test)]
+mod tests;
