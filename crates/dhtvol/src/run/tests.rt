@@ -98,11 +98,13 @@ fn other_words_are_refused(rt: HostRuntime) -> Result<(), Fail> {
 }
 
 /// Inputs that reach what is no line, and what is written of them.
-const MALFORMED: [(&[u8], &[u8]); 6] = [
+const MALFORMED: [(&[u8], &[u8]); 8] = [
     (b"", b"malformed 1\n"),
     (b"\n", b"malformed 1\n"),
     (b"step 0\n", b"malformed 1\n"),
     (b"volume 2 1 0", b"malformed 1\n"),
+    (b"volume 2 1 1\n", b"malformed 1\n"),
+    (b"volume 2 1 0\ncall 0 cre", b"volume 2 1 0\nmalformed 2\n"),
     (
         b"volume 2 1 0\nvolume 2 1 0\n",
         b"volume 2 1 0\nmalformed 2\n",
@@ -141,17 +143,20 @@ fn a_source_that_fails_ends_the_run(rt: HostRuntime) -> Result<(), Fail> {
     Ok(())
 }
 
+/// How many lines were written before each write, one for each event and one for the dump.
+const WRITTEN: [usize; 12] = [0, 1, 2, 3, 4, 5, 6, 8, 9, 11, 12, 14];
+
 #[test]
 fn a_sink_that_fails_ends_the_run(rt: HostRuntime) -> Result<(), Fail> {
     let alloc = rt.alloc();
-    for count in 0..3 {
-        let fails = [(count as u64).saturating_add(1)].to_vec(alloc)?;
+    for (index, count) in WRITTEN.iter().enumerate() {
+        let fails = [(index as u64).saturating_add(1)].to_vec(alloc)?;
         let mut source = MemSource::new(text(alloc, &SCHEDULE)?, Vec::new(alloc));
         let mut sink = MemSink::new(alloc, 2_000, fails)?;
         let (status, _) = run_word(alloc, b"replay", &mut source, &mut sink)?;
-        assert_eq!(rt; status, 5, "at {count}");
-        let wanted = text(alloc, &TRANSCRIPT[..count])?;
-        assert_eq!(rt; sink.bytes(), wanted.as_slice(), "at {count}");
+        assert_eq!(rt; status, 5, "at {index}");
+        let wanted = text(alloc, TRANSCRIPT.get(..*count).expect(&rt, "a front"))?;
+        assert_eq!(rt; sink.bytes(), wanted.as_slice(), "at {index}");
     }
     Ok(())
 }
@@ -160,13 +165,66 @@ fn a_sink_that_fails_ends_the_run(rt: HostRuntime) -> Result<(), Fail> {
 fn a_full_sink_has_a_front(rt: HostRuntime) -> Result<(), Fail> {
     let alloc = rt.alloc();
     let whole = text(alloc, &TRANSCRIPT)?;
-    for room in [0, 5, 13, 100, 846] {
+    for room in 0..whole.len() {
         let mut source = MemSource::new(text(alloc, &SCHEDULE)?, Vec::new(alloc));
         let mut sink = MemSink::new(alloc, room, Vec::new(alloc))?;
         let (status, _) = run_word(alloc, b"replay", &mut source, &mut sink)?;
         assert_eq!(rt; status, 5, "with {room}");
         assert_eq!(rt; sink.bytes().len(), room, "with {room}");
         assert!(rt; whole.starts_with(sink.bytes()), "with {room}");
+    }
+    Ok(())
+}
+
+/// Two calls that fail where the file was made before, their steps, and the lines of each.
+const FAILING: [(&str, usize, &[&str]); 2] = [
+    (
+        "call 0 create @ a",
+        6,
+        &[
+            "call 2 0 create 00000000-0000-0000-0000-000000000001 a",
+            "step 2 0 0 lock ok",
+            "step 2 0 0 lock ok",
+            "step 2 0 0 look ok",
+            "step 2 0 1 look ok",
+            "step 2 0 0 unlock ok",
+            "step 2 0 0 unlock ok",
+            "answer 2 0 at 16 eexist",
+        ],
+    ),
+    (
+        "call 0 lookup @ b",
+        7,
+        &[
+            "call 2 0 lookup 00000000-0000-0000-0000-000000000001 b",
+            "step 2 0 0 look ok",
+            "step 2 0 0 lock ok",
+            "step 2 0 0 lock ok",
+            "step 2 0 0 look ok",
+            "step 2 0 1 look ok",
+            "step 2 0 0 unlock ok",
+            "step 2 0 0 unlock ok",
+            "answer 2 0 at 17 enoent",
+        ],
+    ),
+];
+
+#[test]
+fn a_call_that_fails_is_answered(rt: HostRuntime) -> Result<(), Fail> {
+    let alloc = rt.alloc();
+    for (call, steps, lines) in FAILING {
+        let mut schedule = text(alloc, &SCHEDULE[..9])?;
+        schedule.extend_from_slice(text(alloc, &[call])?.as_slice())?;
+        for _ in 0..steps {
+            schedule.extend_from_slice(b"step 0\n")?;
+        }
+        let mut source = MemSource::new(schedule, Vec::new(alloc));
+        let mut sink = MemSink::new(alloc, 2_000, Vec::new(alloc))?;
+        let (status, _) = run_word(alloc, b"replay", &mut source, &mut sink)?;
+        let mut wanted = text(alloc, &TRANSCRIPT[..11])?;
+        wanted.extend_from_slice(text(alloc, lines)?.as_slice())?;
+        assert_eq!(rt; status, 0, "at {call}");
+        assert!(rt; sink.bytes().starts_with(wanted.as_slice()), "at {call}");
     }
     Ok(())
 }
