@@ -1,1 +1,2 @@
 pub mod DaviesMeyer
+pub mod DaviesMeyerLaws

@@ -1,8 +1,9 @@
 //! The hash of a file name, by which the volume spreads files over bricks.
 #![tactic(auto)]
 
-ghost use Rattle.std.specs.Prelude.{◌≡◌};
+ghost use Rattle.std.specs.Prelude.{◌≡◌, ◌<◌, ◌^◌, ℕ, List};
 ghost use Rattle.dht_hash.specs.DaviesMeyer.{dm};
+ghost use Rattle.dht_hash.specs.DaviesMeyerLaws.{dm_below};
 
 mod block;
 mod cipher;
@@ -34,6 +35,11 @@ pub fn dm_hash(name: &[u8]) -> u32
     let last = state.absorb(&block::words(rest, pad), LAST_CYCLES);
     last.h0 ^ last.h1
 }
+
+/// The hash of each name is below 2^32: this is a law for callers, and does nothing.
+pub fn the_hash_is_a_word()
+    ensures { (name : List ℕ) → dm name < 2 ^ 32 }
+{}
 
 #[cfg(test)]
 mod tests;
