@@ -9,6 +9,7 @@ use Rattle.dht_types.specs.declared.locks.Key.{Key}
 use Rattle.dht_types.specs.declared.locks.Mode.{Mode}
 use Rattle.dht_brick.specs.Contents.{Contents, slot, dir, file, same_key}
 use Rattle.dht_brick.specs.declared.requests.DirRecord.{DirRecord}
+use Rattle.dht_brick.specs.declared.requests.Main.{Main}
 use Rattle.dht_brick.specs.declared.requests.Main.TheVariants.{File}
 use Rattle.dht_brick.specs.declared.requests.NameRequest.{NameRequest}
 use Rattle.dht_brick.specs.declared.requests.NameRequest.TheVariants.{Look, Dirinfo, Create}
@@ -36,12 +37,17 @@ abbrev pub in_dir : Option DirRecord → Reply → Reply
 in_dir None reply = Declined Nodir
 in_dir (Some record_here) reply = reply
 
+-- a look shows the slot, and the attribute of the directory
+abbrev pub slot_shown : Option DirRecord → Option Main → Reply
+slot_shown None main = Declined Nodir
+slot_shown (Some record_here) main = Carried (TheSlot main record_here.value)
+
 abbrev pub dir_shown : Option DirRecord → Reply
 dir_shown None = Declined Nodir
 dir_shown (Some record_here) = Carried (TheDir record_here)
 
 abbrev pub name_reply : NameRequest → Contents → Reply
-name_reply (Look d n) c = in_dir (dir c d) (Carried (TheSlot (slot c (d, n))))
+name_reply (Look d n) c = slot_shown (dir c d) (slot c (d, n))
 name_reply (Dirinfo d) c = dir_shown (dir c d)
 name_reply (Create d n f) c = in_dir (dir c d) (if is_free c (d, n) f then Carried Nothing else Declined (BadSlot (slot c (d, n))))
 

@@ -50,8 +50,8 @@ pub struct DirRecord {
 pub enum Given {
     /// Nothing.
     Nothing,
-    /// The main part of the slot, if there is a slot.
-    Slot(Option<Main>),
+    /// The main part of the slot, if there is a slot, and the attribute of the directory's record.
+    Slot(Option<Main>, Option<LayoutValue>),
     /// The directory's record.
     Dir(DirRecord),
 }

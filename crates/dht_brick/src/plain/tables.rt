@@ -83,7 +83,7 @@ impl Tables {
     {
         match self.directories.get(key.dir) {
             None => Reply::Refused(Why::Nodir),
-            Some(_) => Reply::Ok(Given::Slot(self.slots.get(&key))),
+            Some(record) => Reply::Ok(Given::Slot(self.slots.get(&key), record.value)),
         }
     }
 

@@ -45,9 +45,9 @@ fn requests() -> [Request; 7] {
 fn told(reply: &Reply) -> &'static str {
     match reply {
         Reply::Ok(Given::Nothing) => "done",
-        Reply::Ok(Given::Slot(None)) => "no slot",
-        Reply::Ok(Given::Slot(Some(Main::File(file)))) if *file == FILE => "the file",
-        Reply::Ok(Given::Slot(Some(_))) => "another file",
+        Reply::Ok(Given::Slot(None, _)) => "no slot",
+        Reply::Ok(Given::Slot(Some(Main::File(file)), _)) if *file == FILE => "the file",
+        Reply::Ok(Given::Slot(Some(_), _)) => "another file",
         Reply::Ok(Given::Dir(_)) => "a directory",
         Reply::Refused(Why::Nodir) => "no directory",
         Reply::Refused(Why::Slot(_)) => "a slot",
