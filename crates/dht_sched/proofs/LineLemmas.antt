@@ -15,7 +15,7 @@ use Rattle.dht_types.specs.declared.events.Event.TheVariants.{Volume, Call as Ca
 use Rattle.dht_sched.specs.declared.fault.LineFault.{LineFault}
 use Rattle.dht_sched.specs.declared.fault.LineFault.TheVariants.{Malformed, OutOfMemory}
 use Rattle.dht_sched.specs.Reading.{ReadsUnless}
-use Rattle.dht_sched.specs.Schedule.{directory_word, schedule_words, schedule_text, IsScheduled, IsReadOf, IsScheduledVolume, IsFileName, IsOneLine, HasOneWeight}
+use Rattle.dht_sched.specs.Schedule.{directory_word, schedule_words, schedule_text, IsScheduled, IsReadOf, IsScheduledVolume, IsFileName, IsOneLine, HasWeight}
 use Rattle.dht_sched.specs.Spelling.{spaced, spelled, words_of}
 use Rattle.dht_sched.proofs.NameLemmas.{file_text, file_bytes, same_name, text_word, length-bytes_text-le}
 use Rattle.dht_sched.proofs.WordLemmas.{IsWord, words_of-spaced, spaced-words_of, no_newline, room, length-spaced-le}
@@ -183,11 +183,11 @@ none_left words rest (Some x) h e = absurd (false≢true (sym e))
 
 -- weights that are none of a volume
 pub no_volume : (words others : List (List ℕ)) (bricks : ℕ) (word : List ℕ) (w : List ℕ) → words ≡ word ∷ others → bricks < 2 ^ 64 → decimal bricks ≡ word → All IsLight w → map decimal w ≡ others
-    → (bricks ≡ length w → (1 ≤ length w) × (length w ≤ 32) × HasOneWeight w → ⊥) → (e : Event) → IsScheduled e → schedule_words e ≢ codes "volume" ∷ words
+    → (bricks ≡ length w → (1 ≤ length w) × (length w ≤ 32) × HasWeight w → ⊥) → (e : Event) → IsScheduled e → schedule_words e ≢ codes "volume" ∷ words
 no_volume words others bricks word w e small text light weights none (Volume v) h same =
     let few = h.few in
     let v_is : v ≡ w = same_weights v w (recursion_from_All IsLight v h.light) (recursion_from_All IsLight w light) (cc (same, e, weights)) in
     let size : length v ≡ bricks = decimal_injective (length v) bricks (omega arith) small (cc (same, e, text)) in
-    none (sym size ∙ ap length v_is) (subst (λ (x : List ℕ). (1 ≤ length x) × (length x ≤ 32) × HasOneWeight x) v_is (h.some, few, h.one))
+    none (sym size ∙ ap length v_is) (subst (λ (x : List ℕ). (1 ≤ length x) × (length x ≤ 32) × HasWeight x) v_is (h.some, few, h.heavy))
 no_volume words others bricks word w e small text light weights none (Called c call) h same = absurd (let letters : 99 ≡ 118 = ap kind same in omega arith)
 no_volume words others bricks word w e small text light weights none (Step c) h same = absurd (let letters : 115 ≡ 118 = ap kind same in omega arith)

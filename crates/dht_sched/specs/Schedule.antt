@@ -1,5 +1,5 @@
 -- The lines of a schedule: the text of an event, and which events have a line.
-use Rattle.std.specs.Prelude.{ℕ, ◌≡◌, ◌≤◌, ◌<◌, nat_lt, if◌then◌else◌, ◌⊎◌, List, [], ◌∷◌, length, map, codes, decimal, All, Contains, count_by, Result, Ok, Err}
+use Rattle.std.specs.Prelude.{ℕ, ◌≡◌, ◌≤◌, ◌<◌, if◌then◌else◌, ◌⊎◌, List, [], ◌∷◌, length, map, codes, decimal, All, Any, Contains, Result, Ok, Err}
 use Rattle.dht_types.specs.Gfid.{root, same_gfid}
 use Rattle.dht_types.specs.Name.{IsName}
 use Rattle.dht_types.specs.Text.{gfid_text}
@@ -29,16 +29,16 @@ schedule_words (Step c) = codes "step" ∷ decimal c ∷ []
 abbrev pub schedule_text : Event → List ℕ
 schedule_text e = spaced (schedule_words e)
 
--- one weight is above 0, and no other
-abbrev pub HasOneWeight : List ℕ → Type 0
-HasOneWeight w = count_by (λ x. nat_lt 0 x) w ≡ 1
+-- some brick has weight
+abbrev pub HasWeight : List ℕ → Type 0
+HasWeight w = Any (λ x. 0 < x) w
 
--- the weights of a volume that a schedule may have
+-- the weights of a volume
 pub record IsScheduledVolume (w : List ℕ) : Type 0 where
   pub some : 1 ≤ length w
   pub few : length w ≤ 32
   pub light : All (λ x. x ≤ 1000) w
-  pub one : HasOneWeight w
+  pub heavy : HasWeight w
 
 -- a name that a file may have, of bytes
 pub record IsFileName (n : List ℕ) : Type 0 where

@@ -4,7 +4,7 @@ ghost use Rattle.std.specs.Prelude.{◌≡◌, ◌≢◌, ◌≤◌, ◌↔◌, 
 ghost use Rattle.dht_types.specs.Gfid.{root};
 ghost use Rattle.dht_types.specs.declared.events.Event.{Event};
 ghost use Rattle.dht_sched.specs.Reading.{Reads, ReadsUnless};
-ghost use Rattle.dht_sched.specs.Schedule.{directory_word, schedule_words, schedule_text, IsScheduled, IsReadOf, HasOneWeight, IsOneLine};
+ghost use Rattle.dht_sched.specs.Schedule.{directory_word, schedule_words, schedule_text, IsScheduled, IsReadOf, HasWeight, IsOneLine};
 ghost use Rattle.dht_sched.specs.Spelling.{words_of};
 
 use crate::fault::LineFault;
@@ -87,11 +87,11 @@ fn read_weights(alloc: Global, words: Words<'_>) -> Result<Weights, LineFault>
 
 /// Whether a volume may have these weights, of which none is too heavy.
 fn is_volume(weights: &[u16]) -> bool
-    ensures { IsTrue result ↔ ((1 ≤ length weights.now) × (length weights.now ≤ 32) × HasOneWeight weights.now) }
+    ensures { IsTrue result ↔ ((1 ≤ length weights.now) × (length weights.now ≤ 32) × HasWeight weights.now) }
 {
     let bricks = weights.len();
-    let heavy = weights.iter().filter(|weight| **weight > 0).count();
-    1 <= bricks && bricks <= MOST_BRICKS && heavy == 1
+    let is_heavy = weights.iter().any(|weight| *weight > 0);
+    1 <= bricks && bricks <= MOST_BRICKS && is_heavy
 }
 
 /// The event of a line that begins with `volume`, by its other words.

@@ -11,7 +11,7 @@ use std::process::Abort;
 use std::test::Fail;
 
 /// The lines that are no event's.
-const MALFORMED: [&str; 42] = [
+const MALFORMED: [&str; 41] = [
     "",
     " ",
     "step",
@@ -30,7 +30,6 @@ const MALFORMED: [&str; 42] = [
     "volume",
     "volume 1",
     "volume 0",
-    "volume 2 1 1",
     "volume 2 0 0",
     "volume 2 1",
     "volume 1 1 0",
