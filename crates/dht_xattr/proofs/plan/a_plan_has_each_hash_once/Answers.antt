@@ -1,0 +1,14 @@
+use Rattle.dht_xattr.specs.PlanLaws.{planned_length, planned_valid, planned_once, planned_holder}
+use Rattle.dht_xattr.proofs.plan.a_plan_has_each_hash_once.Goals as goal
+
+pub returns-clause-length : goal.returns-clause-length
+returns-clause-length c = planned_length
+
+pub returns-clause-valid : goal.returns-clause-valid
+returns-clause-valid c = planned_valid
+
+pub returns-clause-once : goal.returns-clause-once
+returns-clause-once c = planned_once
+
+pub returns-clause-holder : goal.returns-clause-holder
+returns-clause-holder c = planned_holder

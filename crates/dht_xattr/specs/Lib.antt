@@ -1,0 +1,11 @@
+pub mod Range
+pub mod RangeLaws
+pub mod Layout
+pub mod LayoutLaws
+pub mod FaultLaws
+pub mod Linkto
+pub mod LinktoLaws
+pub mod Padded
+pub mod Plan
+pub mod OrderLaws
+pub mod PlanLaws

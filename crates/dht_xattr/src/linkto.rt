@@ -1,0 +1,48 @@
+//! The value of a linkto file: the name of the brick that has the file.
+
+ghost use Rattle.std.specs.Prelude.{◌≡◌, ◌<◌, ◌↔◌, Some, IfOk, IfSome, IsNone, Contains, ℕ, List, length, option_map, slice_get};
+ghost use Rattle.dht_types.specs.Volume.{VolumeInfo, IsVolume};
+ghost use Rattle.dht_xattr.specs.Linkto.{linkto_value, linked_brick, without_zero};
+
+use dht_types::identifiers::BrickNo;
+use dht_types::volumes::{Bytes, Volume};
+use std::alloc::{AllocError, Global};
+
+/// The value of a linkto file that leads to a brick, as GlusterFS's attribute
+/// `trusted.glusterfs.dht.linkto`: the brick's name and a zero byte.
+pub fn linkto_bytes(alloc: Global, volume: &Volume, brick: BrickNo) -> Result<Bytes, AllocError>
+    requires { brick.0 < length volume.now.names }
+    ensures { IfOk result (λ value. value ≡ linkto_value volume.now.names brick.0) }
+{
+    let name = volume.name(brick).unwrap_or(&[]);
+    let mut value = Vec::with_capacity(alloc, name.len() + 1)?;
+    value.extend_from_slice(name)?;
+    value.push(0)?;
+    Ok(Bytes::new(value))
+}
+
+/// The value less one zero byte at its end, if it has one.
+fn without_zero(value: &[u8]) -> &[u8]
+    ensures { result.now ≡ without_zero value.now }
+{
+    value.strip_suffix(b"\0").unwrap_or(value)
+}
+
+/// The brick to which a linkto file of this value leads. There is none where the value, less one zero
+/// byte at its end if it has one, is no name of the volume.
+pub fn linkto_brick(volume: &Volume, value: &[u8]) -> Option<BrickNo>
+    ensures brick { option_map (λ b. b.0) result ≡ linked_brick volume.now.names value.now }
+    ensures some { IfSome result (λ b. slice_get volume.now.names b.0 ≡ Some (without_zero value.now)) }
+    ensures none { IsNone result ↔ ¬ (Contains volume.now.names (without_zero value.now)) }
+{
+    // A volume has no name twice, as `bricks` says: the brick is the only one of its name.
+    prove!(volume.bricks() > 0);
+    volume.number(without_zero(value))
+}
+
+/// A linkto value leads to the brick that it was written for, also where its zero byte was taken off:
+/// these are laws for callers, and do nothing.
+pub fn a_linkto_leads_to_its_brick()
+    ensures written { (v : VolumeInfo) (b : ℕ) → IsVolume v → b < length v.names → linked_brick v.names (linkto_value v.names b) ≡ Some b }
+    ensures name { (v : VolumeInfo) (b : ℕ) (name : List ℕ) → IsVolume v → slice_get v.names b ≡ Some name → linked_brick v.names name ≡ Some b }
+{}
