@@ -1,9 +1,12 @@
 -- A permitted request keeps the invariant, and changes what the bricks stand for by just its tree step.
 use Rattle.std.proofs.Common.{◌≡◌, ◌≢◌, ◌<◌, ◌≤◌, ℕ, Bool, true, false, List, [], length, refl, sym, ap, ◌∙◌, subst, inl, inr, ◌⊎◌, arith}
-use Rattle.std.specs.Prelude.{Option, Some, None, nat_eq, is_some, ◌&&◌, if◌then◌else◌}
+use Rattle.std.specs.Prelude.{Option, Some, None, nat_eq, is_some, ◌&&◌, if◌then◌else◌, Any}
 use Rattle.dht_types.specs.Put.{same_entry}
 use Rattle.dht_types.proofs.PutLaws.{put_elim, put_same, put_other, exact_nat, exact_entry, exact_gfid}
-use Rattle.dht_types.specs.Gfid.{Entry, home, call_of, same_gfid}
+use Rattle.dht_hash.specs.DaviesMeyer.{dm}
+use Rattle.dht_xattr.specs.Layout.{holder}
+use Rattle.dht_xattr.specs.Plan.{planned}
+use Rattle.dht_types.specs.Gfid.{Entry, root, home, call_of, same_gfid}
 use Rattle.dht_types.specs.Tree.{Tree, Node, IsFile, applied, Fits}
 use Rattle.dht_types.specs.Story.{Story, Running}
 use Rattle.dht_types.specs.declared.identifiers.Gfid.{Gfid}
@@ -21,7 +24,8 @@ use Rattle.dht_brick.specs.declared.requests.Given.TheVariants.{Nothing}
 use Rattle.dht_brick.specs.declared.requests.Why.TheVariants.{Slot as BadSlot}
 use Rattle.dht_brick.specs.declared.requests.Reply.{Reply}
 use Rattle.dht_brick.specs.declared.requests.Reply.TheVariants.{Ok as Carried, Refused as Declined, NoMemory}
-use Rattle.dht_section.specs.Scene.{Disk, Stands, Kept, NameTruth, FileTruth, slot_at, file_at, step_of, Changes}
+use Rattle.dht_section.specs.Scene.{Disk, Stands, Kept, NameTruth, FileTruth, slot_at, file_at, range_of, range_at, layout_of, holder_of, Placed, step_of, Changes}
+use Rattle.dht_section.specs.SectionLaws.{layout_same}
 use Rattle.dht_section.proofs.ContentsLaws.{slot_at_new, slot_off_new, file_at_new, file_off_new, new_file}
 
 -- two contents have the same directories, names and files
@@ -97,6 +101,10 @@ file_same d e f (Some bytes) same h =
       λ b r l2 e2. h.1 b r (omega arith) (sym (ap (λ y. Rattle.std.specs.FinMap.get y f) (same.each b).files) ∙ e2),
     )
 
+-- the layouts of directories are the same then
+same_layout : (d e : Disk) → SameDisk d e → (g : Gfid) → layout_of e g ≡ layout_of d g
+same_layout d e same g = layout_same d e g same.count (λ b. ap (λ m. range_of (Rattle.std.specs.FinMap.get m g)) (same.each b).dirs)
+
 -- what a story keeps of another, but for its lines
 pub record SameTale (s t : Story) : Type 0 where
   pub tree : t.tree ≡ s.tree
@@ -120,6 +128,10 @@ kept_same d e s t k same tale =
       });
       one = λ x b i m o lb li hb hi. k.one x b i m o (omega arith) (omega arith) (sym (ap (λ y. Rattle.std.specs.FinMap.get y x) (same.each b).slots) ∙ hb) (sym (ap (λ y. Rattle.std.specs.FinMap.get y x) (same.each i).slots) ∙ hi);
       roots = λ b g l. ap (λ m. is_some (Rattle.std.specs.FinMap.get m g)) (same.each b).dirs ∙ k.roots b g (omega arith);
+      held = λ x b m l h. ap (λ ranges. holder ranges (dm x.1)) (same_layout d e same x.0) ∙ k.held x b m (omega arith) (sym (ap (λ y. Rattle.std.specs.FinMap.get y x) (same.each b).slots) ∙ h);
+      recorded = λ x b f l h. ap (λ y. is_some (Rattle.std.specs.FinMap.get y f)) (same.each b).files ∙ k.recorded x b f (omega arith) (sym (ap (λ y. Rattle.std.specs.FinMap.get y x) (same.each b).slots) ∙ h);
+      planned = same_layout d e same root ∙ (k.planned ∙ ap (λ ws. planned ws root) (sym tale.weights));
+      heavy = subst (λ ws. Any (λ w. 0 < w) ws) (sym tale.weights) k.heavy;
       some_brick = omega arith;
       counted = n ∙ k.counted ∙ ap length (sym tale.weights);
       few = omega arith;
@@ -127,6 +139,25 @@ kept_same d e s t k same tale =
       known = λ f h. (let l = k.known f (λ q. h (ap (λ (x : Tree). x.bytes f) tale.tree ∙ q)) in omega arith);
       fresh = λ c r e1 e2 f e3. ap (λ (x : Tree). x.bytes f) tale.tree ∙ tale.fresh c r e1 e2 f e3;
     }
+
+-- each file of the tree stands once, on its holder
+pub placed_of : (d : Disk) (s : Story) (e : Entry) (f : Gfid) → Kept d s → s.tree.names e ≡ Some (IsFile f) → Placed d e
+placed_of d s e f k h =
+    let truth : NameTruth d e (Some (IsFile f)) = subst (NameTruth d e) h (k.stands.names e) in
+    let b = truth.0.0 in
+    record {
+      brick = b;
+      there = truth.0.1;
+      holds = k.held e b (File f) truth.0.1 truth.0.2;
+      file = f;
+      slot = truth.0.2;
+      recorded = k.recorded e b f truth.0.1 truth.0.2;
+      alone = λ i l ne. by i l ne (slot_at d i e) refl;
+    }
+  where
+    by : (i : ℕ) → i < d.count → i ≢ (subst (NameTruth d e) h (k.stands.names e)).0.0 → (o : Option Main) → slot_at d i e ≡ o → o ≡ None
+    by i l ne None q = refl
+    by i l ne (Some m) q = absurd (let t = subst (NameTruth d e) h (k.stands.names e) in ne (k.one e i t.0.0 m (File f) l t.0.1 q t.0.2))
 
 -- one brick made a file at a name
 pub record Makes (d e : Disk) (b : ℕ) (x : Entry) (f : Gfid) : Type 0 where
@@ -225,9 +256,42 @@ one_new d e b x f y i j m o h none li lj old hi hj = elim (entry_cases y x) [
   | inr ne ↦ old m o (sym (slot_other d e b x f y i h ne) ∙ hi) (sym (slot_other d e b x f y j h ne) ∙ hj)
 ]
 
+-- the layouts of directories are the same where a file was made
+made_layout : (d e : Disk) (b : ℕ) (x : Entry) (f : Gfid) → Makes d e b x f → (g : Gfid) → layout_of e g ≡ layout_of d g
+made_layout d e b x f h g = layout_same d e g h.changes.count (λ i. ap range_of (dir_other d e b x f g i h))
+
+held_new : (d e : Disk) (b : ℕ) (x : Entry) (f : Gfid) (y : Entry) (i : ℕ) (m : Main) → Makes d e b x f → NameTruth d x None → holder_of d x ≡ Some b → ((o : Main) → i < d.count → slot_at d i y ≡ Some o → holder_of d y ≡ Some i) → i < e.count → slot_at e i y ≡ Some m → holder_of e y ≡ Some i
+held_new d e b x f y i m h none holds old l q =
+    let count = h.changes.count in
+    ap (λ ranges. holder ranges (dm y.1)) (made_layout d e b x f h y.0)
+    ∙ elim (entry_cases y x) [
+      | inl same ↦ (let at_b = only_new d e b x f i m h none (omega arith) (ap (slot_at e i) (sym same) ∙ q) in ap (holder_of d) same ∙ (holds ∙ ap Some (sym at_b.0)))
+      | inr ne ↦ old m (omega arith) (sym (slot_other d e b x f y i h ne) ∙ q)
+    ]
+
+-- a record of a file is not lost where a file was made
+record_stays : (d e : Disk) (b : ℕ) (x : Entry) (f z : Gfid) (i : ℕ) → Makes d e b x f → is_some (file_at d i z) ≡ true → is_some (file_at e i z) ≡ true
+record_stays d e b x f z i h there = elim (cases same_gfid exact_gfid z f (same_gfid z f) refl) [
+  | inl same ↦ elim (nat_cases i b) [
+    | inl q ↦ ap is_some (ap (λ j. file_at e j z) q ∙ (ap (file_at e b) same ∙ file_new d e b x f h))
+    | inr ne ↦ ap is_some (ap (file_at e i) same ∙ (file_elsewhere d e b x f i h ne ∙ ap (file_at d i) (sym same))) ∙ there
+  ]
+  | inr ne ↦ ap is_some (file_other d e b x f z i h ne) ∙ there
+]
+
+recorded_new : (d e : Disk) (b : ℕ) (x : Entry) (f : Gfid) (y : Entry) (i : ℕ) (z : Gfid) → Makes d e b x f → NameTruth d x None → ((g : Gfid) → i < d.count → slot_at d i y ≡ Some (File g) → is_some (file_at d i g) ≡ true) → i < e.count → slot_at e i y ≡ Some (File z) → is_some (file_at e i z) ≡ true
+recorded_new d e b x f y i z h none old l q =
+    let count = h.changes.count in
+    elim (entry_cases y x) [
+      | inl same ↦ (let at_b = only_new d e b x f i (File z) h none (omega arith) (ap (slot_at e i) (sym same) ∙ q) in
+          let is_f : z ≡ f = (let w : File z ≡ File f = at_b.1 in cc) in
+          ap is_some (ap (λ j. file_at e j z) at_b.0 ∙ (ap (file_at e b) is_f ∙ file_new d e b x f h)))
+      | inr ne ↦ record_stays d e b x f z i h (old z (omega arith) (sym (slot_other d e b x f y i h ne) ∙ q))
+    ]
+
 -- the invariant stays where a brick makes the file that the tree then has
-pub kept_new : (d e : Disk) (s t : Story) (b : ℕ) (g : Gfid) (n : List ℕ) (f : Gfid) → Kept d s → Makes d e b (g, n) f → Fits (AddFile g n f) s.tree → NewTale s t g n f → Kept e t
-kept_new d e s t b g n f k h fits tale =
+pub kept_new : (d e : Disk) (s t : Story) (b : ℕ) (g : Gfid) (n : List ℕ) (f : Gfid) → Kept d s → Makes d e b (g, n) f → holder_of d (g, n) ≡ Some b → Fits (AddFile g n f) s.tree → NewTale s t g n f → Kept e t
+kept_new d e s t b g n f k h holds fits tale =
     let count = h.changes.count in
     let some = k.some_brick in
     let few = k.few in
@@ -247,6 +311,10 @@ kept_new d e s t b g n f k h fits tale =
       });
       one = λ y i j m o li lj hi hj. one_new d e b (g, n) f y i j m o h none (omega arith) (omega arith) (λ m2 o2 a c. k.one y i j m2 o2 (omega arith) (omega arith) a c) hi hj;
       roots = λ i z l. ap is_some (dir_other d e b (g, n) f z i h) ∙ k.roots i z (omega arith);
+      held = λ y i m l q. held_new d e b (g, n) f y i m h none holds (k.held y i) l q;
+      recorded = λ y i z l q. recorded_new d e b (g, n) f y i z h none (k.recorded y i) l q;
+      planned = made_layout d e b (g, n) f h root ∙ (k.planned ∙ ap (λ ws. planned ws root) (sym tale.weights));
+      heavy = subst (λ ws. Any (λ w. 0 < w) ws) (sym tale.weights) k.heavy;
       some_brick = omega arith;
       counted = count ∙ k.counted ∙ ap length (sym tale.weights);
       few = omega arith;

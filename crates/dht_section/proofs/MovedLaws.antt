@@ -65,7 +65,7 @@ quiet_kept s t a r m sound h q =
 added_kept : (s t : Scene) (a : Ask) (r : Reply) (m : Moved s a r t) → Sound s → Permitted s a → Tale s t → Adds a.request r (s.disk.brick a.brick.0) m.new → Kept t.disk t.story
 added_kept s t a r m sound p h q =
     let may : May s a.brick.0 (OnNames (Create q.dir q.name q.file)) = subst (May s a.brick.0) q.request p.may in
-    let wants : Wants s (AddFile q.dir q.name q.file) = may.1 in
+    let wants : Wants s (AddFile q.dir q.name q.file) = may.2 in
     let own = wants.own in
     let calls = h.calls in
     let numbered = h.numbered in
@@ -73,6 +73,7 @@ added_kept s t a r m sound p h q =
     let deeds : t.mine.deeds ≡ Some (deeds_after s.story.tree t.story.size s.mine.call s.mine.deeds (AddFile q.dir q.name q.file)) = m.deeds ∙ ap (deeds_by s t.story.size) q.step in
     kept_new s.disk t.disk s.story t.story a.brick.0 q.dir q.name q.file sound.kept
     (record { there = p.there; changes = record { count = m.disk.count; brick = m.disk.brick ∙ ap (λ (c : Contents). put nat_eq s.disk.brick a.brick.0 c) q.new_is } })
+    may.1
     wants.fits
     (record {
       tree = m.tree ∙ ap (λ (x : Option TreeStep). tree_by x s.story.tree) q.step;
@@ -98,5 +99,5 @@ wants_of s t a r new step v p e = elim (effect s.who a.request (s.disk.brick a.b
   | inl q ↦ absurd (let z : Some step ≡ None = sym e ∙ q.step in cc)
   | inr q ↦ (let may : May s a.brick.0 (OnNames (Create q.dir q.name q.file)) = subst (May s a.brick.0) q.request p.may in
       let z : Some (AddFile q.dir q.name q.file) ≡ Some step = sym q.step ∙ e in
-      subst (Wants s) (let w : AddFile q.dir q.name q.file ≡ step = cc in w) may.1)
+      subst (Wants s) (let w : AddFile q.dir q.name q.file ≡ step = cc in w) may.2)
 ]

@@ -20,7 +20,8 @@ use Rattle.dht_brick.specs.declared.requests.Reply.{Reply}
 use Rattle.dht_brick.specs.declared.requests.Reply.TheVariants.{Ok as Carried, Refused as Declined, NoMemory}
 use Rattle.dht_brick.specs.declared.machines.Ask.{Ask}
 use Rattle.dht_section.specs.Replies.{is_no_memory}
-use Rattle.dht_section.specs.Scene.{Scene, Moved, lock_at, slot_at, step_of, deeds_by}
+use Rattle.dht_section.specs.Scene.{Scene, Moved, lock_at, slot_at, range_of, range_at, layout_of, step_of, deeds_by}
+use Rattle.dht_section.specs.SectionLaws.{layout_same}
 
 put_off : {K A : Type 0} (same : K → K → Bool) (f : K → A) (k : K) (v : A) (m : K) → same m k ≡ false → put same f k v m ≡ f m
 unfolding put
@@ -65,6 +66,18 @@ after_slots client (OnNames (Look d n)) c h = refl
 after_slots client (OnNames (Dirinfo d)) c h = refl
 after_slots client (OnNames (Create d n f)) c h = elim h [ ]
 
+added_dirs : (b : Bool) (c : Contents) (e : Entry) (f : Gfid) → (if b then added c e f else c).dirs ≡ c.dirs
+added_dirs true c e f = refl
+added_dirs false c e f = refl
+
+-- no request changes a directory's record
+after_dirs : (client : ClientNo) (q : Request) (c : Contents) → (after client q c).dirs ≡ c.dirs
+after_dirs client (Lock key mode) c = refl
+after_dirs client (Unlock key) c = refl
+after_dirs client (OnNames (Look d n)) c = refl
+after_dirs client (OnNames (Dirinfo d)) c = refl
+after_dirs client (OnNames (Create d n f)) c = added_dirs _ c (d, n) f
+
 -- a fact of the contents that the row keeps is kept also where there was no memory
 ran_keeps : {A : Type 0} (g : Contents → A) (b : Bool) (client : ClientNo) (q : Request) (old : Contents) (r : Reply) (new : Contents) → g (after client q old) ≡ g old → Ran b client q old r new → g new ≡ g old
 ran_keeps g true client q old r new e h = ap g h.1 ∙ e
@@ -87,6 +100,12 @@ brick_keeps g s t a r m e i =
 
 pub slot_moved : (s t : Scene) (a : Ask) (r : Reply) → Moved s a r t → IsQuiet a.request → (e : Entry) (b : ℕ) → slot_at t.disk b e ≡ slot_at s.disk b e
 slot_moved s t a r m h e b = ap (λ x. Rattle.std.specs.FinMap.get x e) (brick_keeps (λ (c : Contents). c.slots) s t a r m (after_slots s.who a.request (s.disk.brick a.brick.0) h) b)
+
+pub ranges_moved : (s t : Scene) (a : Ask) (r : Reply) → Moved s a r t → (g : Gfid) (b : ℕ) → range_at t.disk g b ≡ range_at s.disk g b
+ranges_moved s t a r m g b = ap (λ x. range_of (Rattle.std.specs.FinMap.get x g)) (brick_keeps (λ (c : Contents). c.dirs) s t a r m (after_dirs s.who a.request (s.disk.brick a.brick.0)) b)
+
+pub layout_moved : (s t : Scene) (a : Ask) (r : Reply) → Moved s a r t → (g : Gfid) → layout_of t.disk g ≡ layout_of s.disk g
+layout_moved s t a r m g = layout_same s.disk t.disk g m.disk.count (ranges_moved s t a r m g)
 
 -- a lock of mine that my request leaves is held as it was
 pub lock_moved : (s t : Scene) (a : Ask) (r : Reply) → Moved s a r t → (g : Gfid) (k : Key) (o : Option Mode) → Leaves a.request k → lock_at s.disk g k s.who ≡ o → lock_at t.disk g k t.who ≡ o

@@ -1,6 +1,8 @@
 -- The steps of the section and the closing.
 use Rattle.std.proofs.Common.{◌≡◌, ◌<◌, ◌≤◌, ◌+◌, ◌-◌, ℕ, refl, sym, ◌∙◌, ap, subst, arith, inl, inr, true, false}
-use Rattle.std.specs.Prelude.{Option, Some, None, is_some, length, List}
+use Rattle.std.specs.Prelude.{zero, suc, Option, Some, None, is_some, nat_lt, if◌then◌else◌, length, List, [], ◌∷◌, ◌++◌}
+use Rattle.std.proofs.Common.{length-append, Bool}
+use Rattle.std.proofs.lemmas.Bool.Decides.{nat_tests}
 use Rattle.std.proofs.lemmas.Bool.{cases_eq}
 use Rattle.dht_types.specs.Gfid.{Entry, root, same_gfid}
 use Rattle.dht_types.specs.Tree.{Tree, Node, IsFile}
@@ -8,7 +10,7 @@ use Rattle.dht_types.specs.declared.identifiers.Gfid.{Gfid}
 use Rattle.dht_types.specs.declared.identifiers.BrickNo.{BrickNo}
 use Rattle.dht_types.specs.declared.locks.Mode.TheVariants.{Shared, Exclusive}
 use Rattle.dht_brick.specs.Contents.{dir}
-use Rattle.dht_brick.specs.Rows.{in_dir}
+use Rattle.dht_brick.specs.Rows.{in_dir, slot_shown}
 use Rattle.dht_brick.specs.declared.requests.DirRecord.{DirRecord}
 use Rattle.dht_brick.specs.declared.requests.Main.{Main}
 use Rattle.dht_brick.specs.declared.requests.Main.TheVariants.{File}
@@ -16,16 +18,18 @@ use Rattle.dht_brick.specs.declared.requests.NameRequest.TheVariants.{Look}
 use Rattle.dht_brick.specs.declared.requests.Request.TheVariants.{OnNames}
 use Rattle.dht_brick.specs.declared.requests.Reply.{Reply}
 use Rattle.dht_brick.specs.declared.machines.Ask.{Ask}
-use Rattle.dht_section.specs.Replies.{is_no_memory, main_shown}
-use Rattle.dht_section.specs.Scene.{Disk, slot_at, NameTruth, Scene, Sound, Moved}
-use Rattle.dht_section.specs.Section.{entry_at, directory_key, name_key, lock_brick, section_asks, section_left, section_locks, section_location, section_stopped, stopped_location, stopped_locks, LocksBy, SectionKnows, seen, Truth, node_of, HasPlace, IsFresh, Locked, LockingKnows, LookingKnows, SawAt, HoldsName}
-use Rattle.dht_section.specs.SectionLaws.{bricks_are, lock_brick_is, truth_kept}
-use Rattle.dht_section.proofs.SceneLaws.{IsQuiet, row_reply, slot_moved, lock_moved, lock_taken, deeds_quiet}
+use Rattle.dht_xattr.specs.declared.range.Range.{Range}
+use Rattle.dht_section.specs.Replies.{is_no_memory, main_shown, range_shown}
+use Rattle.dht_section.specs.Scene.{Disk, slot_at, range_of, range_at, ranges_below, layout_of, NameTruth, Scene, Sound, Moved}
+use Rattle.dht_section.specs.Section.{entry_at, directory_key, name_key, lock_brick, section_asks, section_left, section_locks, section_location, section_stopped, stopped_location, stopped_locks, LocksBy, SectionKnows, seen, nothing_seen, found_then, lengthened, Truth, node_of, HasPlace, IsFresh, Locked, LockingKnows, LookingKnows, SawAt, HoldsName}
+use Rattle.dht_section.specs.SectionLaws.{bricks_are, lock_brick_is, truth_kept, below_same}
+use Rattle.dht_section.proofs.SceneLaws.{IsQuiet, row_reply, slot_moved, ranges_moved, lock_moved, lock_taken, deeds_quiet}
 use Rattle.dht_section.specs.Closing.{closing_left}
 use Rattle.dht_section.specs.declared.closing.Closing.{Closing}
 use Rattle.dht_section.specs.declared.closing.Closing.TheVariants.{UnlockingName, UnlockingDirectory}
 use Rattle.dht_section.specs.declared.section.Location.{Location}
 use Rattle.dht_section.specs.declared.section.Place.{Place}
+use Rattle.dht_section.specs.declared.section.Seen.{Seen}
 use Rattle.dht_section.specs.declared.section.Stopped.{Stopped}
 use Rattle.dht_section.specs.declared.section.Section.{Section}
 use Rattle.dht_section.specs.declared.section.Section.TheVariants.{LockingDirectory, LockingName, Looking}
@@ -42,7 +46,8 @@ directory_step l s t r sound n h m = record {
   directory = lock_taken s t (lock_brick l) l.directory (directory_key l) Shared r (lock_brick_is l s sound h.place) n m;
 }
 
-name_step : (l : Location) (s t : Scene) (r : Reply) → Sound s → Sound t → is_no_memory r ≡ false → LockingKnows l s → Moved s (section_asks (LockingName l)) r t → LookingKnows l (record { 0 = 0 }) None t
+name_step : (l : Location) (s t : Scene) (r : Reply) → Sound s → Sound t → is_no_memory r ≡ false → LockingKnows l s → Moved s (section_asks (LockingName l)) r t → LookingKnows l (record { 0 = 0 }) nothing_seen t
+unfolding ranges_below
 name_step l s t r sound after n h m =
     let fresh = fresh_moved l s t _ r tt h.fresh m in
     let bricks = bricks_are l t after fresh.place in
@@ -55,6 +60,7 @@ name_step l s t r sound after n h m =
       };
       within = omega arith;
       truth = λ b k. absurd (omega arith);
+      read = refl;
     }
 
 -- every brick has a record of the root, and the root is in the tree
@@ -68,36 +74,82 @@ root_there s g b sound e l = sound.kept.roots b g l ∙ ap (λ x. same_gfid x ro
 pub root_in_tree : (s : Scene) (g : Gfid) → Sound s → g ≡ root → s.story.tree.dirs g ≡ true
 root_in_tree s g sound e = ap s.story.tree.dirs e ∙ (sound.kept.stands.dirs root ∙ root_there s root 0 sound refl sound.kept.some_brick)
 
--- a look at a name of the root shows the slot
+-- a look at a name of the root shows the slot, and the range of the directory
+shown_there : (o : Option DirRecord) (m : Option Main) → is_some o ≡ true → main_shown (slot_shown o m) ≡ m
+shown_there None m h = absurd (let e : false ≡ true = h in cc)
+shown_there (Some x) m h = refl
+
+range_there : (o : Option DirRecord) (m : Option Main) → range_shown (slot_shown o m) ≡ range_of o
+range_there None m = refl
+range_there (Some x) m = refl
+
 pub look_shown : (g : Gfid) (n : List ℕ) (b : BrickNo) (s t : Scene) (r : Reply) → Sound s → g ≡ root → b.0 < s.disk.count → is_no_memory r ≡ false → Moved s (record { brick = b; request = OnNames (Look g n) }) r t → main_shown r ≡ slot_at s.disk b.0 (g, n)
-look_shown g n b s t r sound e l z m = ap main_shown (row_reply s t _ r m z ∙ in_dir_there (dir (s.disk.brick b.0) g) _ (root_there s g b.0 sound e l))
+look_shown g n b s t r sound e l z m = ap main_shown (row_reply s t _ r m z) ∙ shown_there (dir (s.disk.brick b.0) g) (slot_at s.disk b.0 (g, n)) (root_there s g b.0 sound e l)
+
+pub look_range : (g : Gfid) (n : List ℕ) (b : BrickNo) (s t : Scene) (r : Reply) → is_no_memory r ≡ false → Moved s (record { brick = b; request = OnNames (Look g n) }) r t → range_shown r ≡ range_at s.disk g b.0
+look_range g n b s t r z m = ap range_shown (row_reply s t _ r m z) ∙ range_there (dir (s.disk.brick b.0) g) (slot_at s.disk b.0 (g, n))
 
 -- one more look
-truth_seen : (d : Disk) (x : Entry) (b : BrickNo) (found : Option Place) (o : Option Main) → b.0 < d.count → slot_at d b.0 x ≡ o → Truth d x b.0 found → Truth d x (b.0 + 1) (seen found b o)
+truth_seen : (d : Disk) (x : Entry) (b : BrickNo) (found : Option Place) (o : Option Main) → b.0 < d.count → slot_at d b.0 x ≡ o → Truth d x b.0 found → Truth d x (b.0 + 1) (found_then found b o)
 truth_seen d x b None None l e t = λ i k. elim (cases_eq i b.0) [ inl q ↦ ap (λ (j : ℕ). slot_at d j x) q ∙ e | inr ne ↦ t i (omega arith) ]
 truth_seen d x b (Some p) None l e t = t
 truth_seen d x b found (Some (File f)) l e t = (l, e)
 
-look_truth : (l : Location) (b : BrickNo) (found : Option Place) (s t : Scene) (r : Reply) → Sound s → is_no_memory r ≡ false → LookingKnows l b found s → Moved s (section_asks (Looking l b found)) r t → Truth t.disk (entry_at l) (b.0 + 1) (seen found b (main_shown r))
-look_truth l b found s t r sound z h m =
+look_truth : (l : Location) (b : BrickNo) (x : Seen) (s t : Scene) (r : Reply) → Sound s → is_no_memory r ≡ false → LookingKnows l b x s → Moved s (section_asks (Looking l b x)) r t → Truth t.disk (entry_at l) (b.0 + 1) (found_then x.place b (main_shown r))
+look_truth l b x s t r sound z h m =
     let bricks = bricks_are l s sound h.fresh.place in
     let within = h.within in
     let here : b.0 < s.disk.count = omega arith in
-    truth_kept s.disk t.disk (entry_at l) (b.0 + 1) (seen found b (main_shown r)) m.disk.count (slot_moved s t _ r m tt (entry_at l))
-    (truth_seen s.disk (entry_at l) b found (main_shown r) here (sym (look_shown l.directory l.name b s t r sound h.fresh.place.root here z m)) h.truth)
+    truth_kept s.disk t.disk (entry_at l) (b.0 + 1) (found_then x.place b (main_shown r)) m.disk.count (slot_moved s t _ r m tt (entry_at l))
+    (truth_seen s.disk (entry_at l) b x.place (main_shown r) here (sym (look_shown l.directory l.name b s t r sound h.fresh.place.root here z m)) h.truth)
 
-looked_locked : (l : Location) (b : BrickNo) (found : Option Place) (s t : Scene) (r : Reply) → Locked l s → Moved s (section_asks (Looking l b found)) r t → Locked l t
-looked_locked l b found s t r h m = record {
+-- the ranges that were read are as many as the bricks that were looked at
+pub below_length : (d : Disk) (g : Gfid) (n : ℕ) → length (ranges_below d g n) ≡ n
+unfolding ranges_below
+below_length d g zero = refl
+below_length d g (suc n) = let e = below_length d g n in omega (arith, length-append (ranges_below d g n) (range_at d g n ∷ []))
+
+pub below_more : (d : Disk) (g : Gfid) (n : ℕ) → ranges_below d g (n + 1) ≡ ranges_below d g n ++ range_at d g n ∷ []
+unfolding ranges_below
+below_more d g n = ap (ranges_below d g) (let e : n + 1 ≡ suc n = omega arith in e)
+
+pub longer : (ranges : List (Option Range)) (range : Option Range) → length ranges < 32 → lengthened ranges range ≡ ranges ++ range ∷ []
+longer ranges range h = by (nat_lt (length ranges) 32) refl
+  where
+    by : (b : Bool) → nat_lt (length ranges) 32 ≡ b → (if b then ranges ++ range ∷ [] else ranges) ≡ ranges ++ range ∷ []
+    by true e = refl
+    by false e = absurd (grind (arith, nat_tests, h, e))
+
+-- one range more was read
+pub read_more : (d e : Disk) (g : Gfid) (n : ℕ) (ranges : List (Option Range)) (range : Option Range) → n < 32 → ranges ≡ ranges_below d g n → range ≡ range_at d g n → ((b : ℕ) → range_at e g b ≡ range_at d g b) → lengthened ranges range ≡ ranges_below e g (n + 1)
+read_more d e g n ranges range few old new same =
+    let size : length ranges ≡ n = ap length old ∙ below_length d g n in
+    longer ranges range (omega arith)
+    ∙ (ap (λ xs. xs ++ range ∷ []) old
+    ∙ (ap (λ x. ranges_below d g n ++ x ∷ []) new
+    ∙ (sym (below_more d g n)
+    ∙ sym (below_same d e g (n + 1) same))))
+
+look_read : (l : Location) (b : BrickNo) (x : Seen) (s t : Scene) (r : Reply) → Sound s → is_no_memory r ≡ false → LookingKnows l b x s → Moved s (section_asks (Looking l b x)) r t → lengthened x.layout (range_shown r) ≡ ranges_below t.disk l.directory (b.0 + 1)
+look_read l b x s t r sound z h m =
+    let bricks = bricks_are l s sound h.fresh.place in
+    let within = h.within in
+    let few = sound.kept.few in
+    read_more s.disk t.disk l.directory b.0 x.layout (range_shown r) (omega arith) h.read (look_range l.directory l.name b s t r z m) (ranges_moved s t _ r m l.directory)
+
+looked_locked : (l : Location) (b : BrickNo) (x : Seen) (s t : Scene) (r : Reply) → Locked l s → Moved s (section_asks (Looking l b x)) r t → Locked l t
+looked_locked l b x s t r h m = record {
   directory = lock_moved s t _ r m l.directory (directory_key l) (Some Shared) tt h.directory;
   name = lock_moved s t _ r m l.directory (name_key l) (Some Exclusive) tt h.name;
 }
 
-look_step : (l : Location) (b : BrickNo) (found : Option Place) (next : ℕ) (s t : Scene) (r : Reply) → Sound s → is_no_memory r ≡ false → next ≡ b.0 + 1 → next < l.bricks → LookingKnows l b found s → Moved s (section_asks (Looking l b found)) r t → LookingKnows l (record { 0 = next }) (seen found b (main_shown r)) t
-look_step l b found next s t r sound z e k h m = record {
+look_step : (l : Location) (b : BrickNo) (x : Seen) (next : ℕ) (s t : Scene) (r : Reply) → Sound s → is_no_memory r ≡ false → next ≡ b.0 + 1 → next < l.bricks → LookingKnows l b x s → Moved s (section_asks (Looking l b x)) r t → LookingKnows l (record { 0 = next }) (seen x b r) t
+look_step l b x next s t r sound z e k h m = record {
   fresh = fresh_moved l s t _ r tt h.fresh m;
-  locked = looked_locked l b found s t r h.locked m;
+  locked = looked_locked l b x s t r h.locked m;
   within = k;
-  truth = subst (λ (i : ℕ). Truth t.disk (entry_at l) i (seen found b (main_shown r))) (sym e) (look_truth l b found s t r sound z h m);
+  truth = subst (λ (i : ℕ). Truth t.disk (entry_at l) i (found_then x.place b (main_shown r))) (sym e) (look_truth l b x s t r sound z h m);
+  read = look_read l b x s t r sound z h m ∙ ap (ranges_below t.disk l.directory) (sym e);
 }
 
 -- what was found at all bricks is what the tree has
@@ -125,35 +177,37 @@ saw_now l found at s sound g e h =
       node = ap (λ (p : Tree). p.names (entry_at l)) now ∙ h;
     }
 
-last_step : (l : Location) (b : BrickNo) (found : Option Place) (at : ℕ) (s t : Scene) (r : Reply) → Sound s → Sound t → is_no_memory r ≡ false → l.bricks ≤ b.0 + 1 → at ≡ t.story.size → LookingKnows l b found s → Moved s (section_asks (Looking l b found)) r t → HoldsName (record { location = l; found = seen found b (main_shown r); at = at }) t
-last_step l b found at s t r sound after z k e h m =
+last_step : (l : Location) (b : BrickNo) (x : Seen) (at : ℕ) (s t : Scene) (r : Reply) → Sound s → Sound t → is_no_memory r ≡ false → l.bricks ≤ b.0 + 1 → at ≡ t.story.size → LookingKnows l b x s → Moved s (section_asks (Looking l b x)) r t → HoldsName (record { location = l; found = found_then x.place b (main_shown r); layout = lengthened x.layout (range_shown r); at = at }) t
+last_step l b x at s t r sound after z k e h m =
+    let found = found_then x.place b (main_shown r) in
     let fresh = fresh_moved l s t _ r tt h.fresh m in
     let bricks = bricks_are l t after fresh.place in
     let within = h.within in
     let all : b.0 + 1 ≡ t.disk.count = omega arith in
-    let truth : Truth t.disk (entry_at l) t.disk.count (seen found b (main_shown r)) = subst (λ (i : ℕ). Truth t.disk (entry_at l) i (seen found b (main_shown r))) all (look_truth l b found s t r sound z h m) in
+    let truth : Truth t.disk (entry_at l) t.disk.count found = subst (λ (i : ℕ). Truth t.disk (entry_at l) i found) all (look_truth l b x s t r sound z h m) in
     record {
       fresh = fresh;
-      locked = looked_locked l b found s t r h.locked m;
+      locked = looked_locked l b x s t r h.locked m;
       truth = truth;
-      saw = saw_now l (seen found b (main_shown r)) at t after h.fresh.place.root e (node_is t (entry_at l) (seen found b (main_shown r)) after truth);
+      read = look_read l b x s t r sound z h m ∙ ap (ranges_below t.disk l.directory) all;
+      saw = saw_now l found at t after h.fresh.place.root e (node_is t (entry_at l) found after truth);
     }
 
 -- a section that is stopped: its name, the locks that it asked for, and what is known still
 stop_place : (m : Section) (s t : Scene) (r : Reply) → SectionKnows m s → Moved s (section_asks m) r t → HasPlace (stopped_location (section_stopped m)) t
 stop_place (LockingDirectory l) s t r h m = place_moved l s t _ r h.place m
 stop_place (LockingName l) s t r h m = place_moved l s t _ r h.fresh.place m
-stop_place (Looking l b found) s t r h m = place_moved l s t _ r h.fresh.place m
+stop_place (Looking l b x) s t r h m = place_moved l s t _ r h.fresh.place m
 
 stop_locks : (m : Section) → LocksBy (section_asks m).request (section_locks m) (stopped_locks (section_stopped m))
 stop_locks (LockingDirectory l) = refl
 stop_locks (LockingName l) = refl
-stop_locks (Looking l b found) = refl
+stop_locks (Looking l b x) = refl
 
 stop_location : (m : Section) → stopped_location (section_stopped m) ≡ section_location m
 stop_location (LockingDirectory l) = refl
 stop_location (LockingName l) = refl
-stop_location (Looking l b found) = refl
+stop_location (Looking l b x) = refl
 
 -- the same, as `take` meets them
 pub take_stop : (m : Section) (x : Stopped) (s t : Scene) (r : Reply) → x ≡ section_stopped m → SectionKnows m s → Moved s (section_asks m) r t → HasPlace (stopped_location x) t
@@ -168,20 +222,20 @@ take_stop_location m x e = ap stopped_location e ∙ stop_location m
 pub take_directory : (m : Section) (l : Location) (r : Reply) (s t : Scene) → m ≡ LockingDirectory l → is_no_memory r ≡ false → Sound s → SectionKnows m s → Moved s (section_asks m) r t → LockingKnows l t × (l.bricks + 1 < section_left m)
 take_directory m l r s t e z sound h mv = (directory_step l s t r sound z (rw e at h) (rw e at mv), rw e (omega arith))
 
-pub take_name : (m : Section) (l : Location) (r : Reply) (s t : Scene) → m ≡ LockingName l → is_no_memory r ≡ false → Sound s → Sound t → SectionKnows m s → Moved s (section_asks m) r t → LookingKnows l (record { 0 = 0 }) None t × (l.bricks - 0 < section_left m)
-take_name m l r s t e z sound after h mv = (name_step l s t r sound after z (rw e at h) (rw e at mv), rw e (omega arith))
+pub take_name : (m : Section) (l : Location) (new : Seen) (r : Reply) (s t : Scene) → m ≡ LockingName l → is_no_memory r ≡ false → new ≡ nothing_seen → Sound s → Sound t → SectionKnows m s → Moved s (section_asks m) r t → LookingKnows l (record { 0 = 0 }) new t × (l.bricks - 0 < section_left m)
+take_name m l new r s t e z f sound after h mv = (rw f (name_step l s t r sound after z (rw e at h) (rw e at mv)), rw e (omega arith))
 
-pub take_look : (m : Section) (l : Location) (b : BrickNo) (found new : Option Place) (next : ℕ) (r : Reply) (s t : Scene) → m ≡ Looking l b found → is_no_memory r ≡ false → new ≡ seen found b (main_shown r) → next ≡ b.0 + 1 → next < l.bricks → Sound s → SectionKnows m s → Moved s (section_asks m) r t → LookingKnows l (record { 0 = next }) new t × (l.bricks - next < section_left m)
-take_look m l b found new next r s t e z f n k sound h mv = (rw f (look_step l b found next s t r sound z n k (rw e at h) (rw e at mv)), rw e (omega arith))
+pub take_look : (m : Section) (l : Location) (b : BrickNo) (x new : Seen) (next : ℕ) (r : Reply) (s t : Scene) → m ≡ Looking l b x → is_no_memory r ≡ false → new ≡ seen x b r → next ≡ b.0 + 1 → next < l.bricks → Sound s → SectionKnows m s → Moved s (section_asks m) r t → LookingKnows l (record { 0 = next }) new t × (l.bricks - next < section_left m)
+take_look m l b x new next r s t e z f n k sound h mv = (rw f (look_step l b x next s t r sound z n k (rw e at h) (rw e at mv)), rw e (omega arith))
 
-pub take_last : (m : Section) (l : Location) (b : BrickNo) (found new : Option Place) (at : ℕ) (r : Reply) (s t : Scene) → m ≡ Looking l b found → is_no_memory r ≡ false → new ≡ seen found b (main_shown r) → l.bricks ≤ b.0 + 1 → at ≡ t.story.size → Sound s → Sound t → SectionKnows m s → Moved s (section_asks m) r t → HoldsName (record { location = l; found = new; at = at }) t
-take_last m l b found new at r s t e z f k a sound after h mv = rw f (last_step l b found at s t r sound after z k a (rw e at h) (rw e at mv))
+pub take_last : (m : Section) (l : Location) (b : BrickNo) (x new : Seen) (at : ℕ) (r : Reply) (s t : Scene) → m ≡ Looking l b x → is_no_memory r ≡ false → new ≡ seen x b r → l.bricks ≤ b.0 + 1 → at ≡ t.story.size → Sound s → Sound t → SectionKnows m s → Moved s (section_asks m) r t → HoldsName (record { location = l; found = new.place; layout = new.layout; at = at }) t
+take_last m l b x new at r s t e z f k a sound after h mv = rw f (last_step l b x at s t r sound after z k a (rw e at h) (rw e at mv))
 
 -- a section sends another request, and a closing at most two
 pub section_goes_on : (m : Section) (s : Scene) → SectionKnows m s → 0 < section_left m
 section_goes_on (LockingDirectory l) s h = omega arith
 section_goes_on (LockingName l) s h = omega arith
-section_goes_on (Looking l b found) s h = let w = h.within in omega arith
+section_goes_on (Looking l b x) s h = let w = h.within in omega arith
 
 pub closing_short : (c : Closing) → closing_left c ≤ 2
 closing_short (UnlockingName l f) = omega arith

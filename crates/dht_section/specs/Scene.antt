@@ -1,5 +1,5 @@
 -- What a machine's knowledge speaks of: all bricks, the story so far, and the machine's own call. What the bricks stand for, what a machine may ask, what its request changes, and what the requests of others may change.
-use Rattle.std.specs.Prelude.{ℕ, ◌<◌, ◌≤◌, ◌≡◌, ◌≢◌, nat_eq, is_some, Option, Some, None, List, length}
+use Rattle.std.specs.Prelude.{ℕ, zero, suc, ◌<◌, ◌≤◌, ◌≡◌, ◌≢◌, nat_eq, is_some, true, Option, Some, None, List, [], ◌∷◌, ◌++◌, length, Any}
 use Rattle.dht_types.specs.Put.{put}
 use Rattle.dht_types.specs.Gfid.{Entry, root, home, anchor, call_of, same_gfid}
 use Rattle.dht_types.specs.Tree.{Tree, Node, IsFile, applied, Fits}
@@ -12,8 +12,15 @@ use Rattle.dht_types.specs.declared.locks.Key.{Key}
 use Rattle.dht_types.specs.declared.locks.Key.TheVariants.{Dir, Entry as Name}
 use Rattle.dht_types.specs.declared.locks.Mode.{Mode}
 use Rattle.dht_types.specs.declared.locks.Mode.TheVariants.{Exclusive}
+use Rattle.dht_types.specs.declared.lines.LayoutValue.{LayoutValue}
+use Rattle.dht_hash.specs.DaviesMeyer.{dm}
+use Rattle.dht_xattr.specs.Range.{decoded}
+use Rattle.dht_xattr.specs.Layout.{holder}
+use Rattle.dht_xattr.specs.Plan.{planned}
+use Rattle.dht_xattr.specs.declared.range.Range.{Range}
 use Rattle.dht_brick.specs.Contents.{Contents, FileRecord, slot, dir, file}
 use Rattle.dht_brick.specs.Rows.{Serves}
+use Rattle.dht_brick.specs.declared.requests.DirRecord.{DirRecord}
 use Rattle.dht_brick.specs.declared.requests.Main.{Main}
 use Rattle.dht_brick.specs.declared.requests.Main.TheVariants.{File}
 use Rattle.dht_brick.specs.declared.requests.NameRequest.{NameRequest}
@@ -37,6 +44,32 @@ slot_at d b e = slot (d.brick b) e
 abbrev pub file_at : Disk → ℕ → Gfid → Option FileRecord
 file_at d b f = file (d.brick b) f
 
+-- the range of hashes that an attribute gives a brick, if it gives one
+unfoldable pub range_of_value : Option LayoutValue → Option Range
+range_of_value None = None
+range_of_value (Some v) = decoded v.0
+
+-- the range that a brick has of a directory, by the directory's record there
+abbrev pub range_of : Option DirRecord → Option Range
+range_of None = None
+range_of (Some r) = range_of_value r.value
+
+abbrev pub range_at : Disk → Gfid → ℕ → Option Range
+range_at d g b = range_of (dir (d.brick b) g)
+
+-- the ranges of a directory on the bricks below a limit, in the bricks' order
+unfoldable pub ranges_below : Disk → Gfid → ℕ → List (Option Range)
+ranges_below d g zero = []
+ranges_below d g (suc b) = ranges_below d g b ++ range_at d g b ∷ []
+
+-- the layout of a directory: its range on each brick
+abbrev pub layout_of : Disk → Gfid → List (Option Range)
+layout_of d g = ranges_below d g d.count
+
+-- the holder of a name: the first brick whose range of the directory contains the hash of the name
+abbrev pub holder_of : Disk → Entry → Option ℕ
+holder_of d e = holder (layout_of d e.0) (dm e.1)
+
 -- how a client holds a lock: the locks of a directory and its names stand on the directory's anchor
 abbrev pub lock_at : Disk → Gfid → Key → ClientNo → Option Mode
 lock_at d g key c = (d.brick (anchor g d.count)).locks key c.0
@@ -57,11 +90,27 @@ pub record Stands (d : Disk) (t : Tree) : Type 0 where
   pub dirs : (g : Gfid) → t.dirs g ≡ is_some (dir (d.brick (home g)) g)
   pub bytes : (f : Gfid) → FileTruth d f (t.bytes f)
 
+-- a name stands once: on its holder, which has the record of the name's file, and on no other brick
+pub record Placed (d : Disk) (e : Entry) : Type 0 where
+  pub brick : ℕ
+  pub there : brick < d.count
+  pub holds : holder_of d e ≡ Some brick
+  pub file : Gfid
+  pub slot : slot_at d brick e ≡ Some (File file)
+  pub recorded : is_some (file_at d brick file) ≡ true
+  pub alone : (b : ℕ) → b < d.count → b ≢ brick → slot_at d b e ≡ None
+
 -- what holds of bricks and story between any two requests, whoever asks: the invariant of the volume
 pub record Kept (d : Disk) (s : Story) : Type 0 where
   pub stands : Stands d s.tree
   pub one : (e : Entry) (b i : ℕ) (m n : Main) → b < d.count → i < d.count → slot_at d b e ≡ Some m → slot_at d i e ≡ Some n → b ≡ i
   pub roots : (b : ℕ) (g : Gfid) → b < d.count → is_some (dir (d.brick b) g) ≡ same_gfid g root
+  -- a name is on its holder, which has the record of the name's file
+  pub held : (e : Entry) (b : ℕ) (m : Main) → b < d.count → slot_at d b e ≡ Some m → holder_of d e ≡ Some b
+  pub recorded : (e : Entry) (b : ℕ) (f : Gfid) → b < d.count → slot_at d b e ≡ Some (File f) → is_some (file_at d b f) ≡ true
+  -- the root's layout is the one that is planned for a volume of these weights
+  pub planned : layout_of d root ≡ planned s.weights root
+  pub heavy : Any (λ w. 0 < w) s.weights
   pub some_brick : 0 < d.count
   pub counted : d.count ≡ length s.weights
   pub few : d.count ≤ 32
@@ -105,11 +154,11 @@ pub record Wants (s : Scene) (step : TreeStep) : Type 0 where
   pub fits : Fits step s.story.tree
   pub own : IsOwn s.story.run s.who s.mine.number (made_in step)
 
--- what must hold when a request about names is sent. Create: under the lock of the name, which no brick has yet
-abbrev pub MayName : Scene → NameRequest → Type 0
-MayName s (Look d n) = Unit {0}
-MayName s (Dirinfo d) = Unit {0}
-MayName s (Create d n f) = (lock_at s.disk d (Name d n) s.who ≡ Some Exclusive) × Wants s (AddFile d n f)
+-- what must hold when a request about names is sent to a brick. Create: under the lock of the name, to the name's holder, where no brick has the name yet
+abbrev pub MayName : Scene → ℕ → NameRequest → Type 0
+MayName s b (Look d n) = Unit {0}
+MayName s b (Dirinfo d) = Unit {0}
+MayName s b (Create d n f) = (lock_at s.disk d (Name d n) s.who ≡ Some Exclusive) × (holder_of s.disk (d, n) ≡ Some b) × Wants s (AddFile d n f)
 
 -- the directory on whose anchor a lock stands
 abbrev pub lock_dir : Key → Gfid
@@ -120,7 +169,7 @@ lock_dir (Name g n) = g
 abbrev pub May : Scene → ℕ → Request → Type 0
 May s b (Lock key mode) = b ≡ anchor (lock_dir key) s.disk.count
 May s b (Unlock key) = b ≡ anchor (lock_dir key) s.disk.count
-May s b (OnNames q) = MayName s q
+May s b (OnNames q) = MayName s b q
 
 pub record Permitted (s : Scene) (a : Ask) : Type 0 where
   pub there : a.brick.0 < s.disk.count
@@ -157,7 +206,7 @@ pub record Moved (s : Scene) (a : Ask) (r : Reply) (t : Scene) : Type 0 where
   pub later : s.story.size ≤ t.story.size
   pub past : (j : ℕ) → j ≤ s.story.size → t.story.past j ≡ s.story.past j
 
--- what all others together may do between two requests of mine: each name whose lock I hold alone is kept, on the bricks and in the tree, and so is each lock that I hold
+-- what all others together may do between two requests of mine: each name whose lock I hold alone is kept, on the bricks and in the tree, and so is each lock that I hold; the ranges of directories stay
 pub record Others (s t : Scene) : Type 0 where
   pub who : t.who ≡ s.who
   pub mine : t.mine ≡ s.mine
@@ -168,6 +217,7 @@ pub record Others (s t : Scene) : Type 0 where
   pub slots : (g : Gfid) (n : List ℕ) → lock_at s.disk g (Name g n) s.who ≡ Some Exclusive → (b : ℕ) → slot_at t.disk b (g, n) ≡ slot_at s.disk b (g, n)
   pub names : (g : Gfid) (n : List ℕ) → lock_at s.disk g (Name g n) s.who ≡ Some Exclusive → t.story.tree.names (g, n) ≡ s.story.tree.names (g, n)
   pub dirs : (g : Gfid) → t.story.tree.dirs g ≡ s.story.tree.dirs g
+  pub ranges : (g : Gfid) (b : ℕ) → range_at t.disk g b ≡ range_at s.disk g b
   pub later : s.story.size ≤ t.story.size
   pub past : (j : ℕ) → j ≤ s.story.size → t.story.past j ≡ s.story.past j
 

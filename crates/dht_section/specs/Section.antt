@@ -1,20 +1,26 @@
 -- What a section asks, knows and hands out.
-use Rattle.std.specs.Prelude.{ℕ, ◌+◌, ◌-◌, ◌<◌, ◌≤◌, ◌≡◌, ◌==◌, nat_le, Bool, true, false, if◌then◌else◌, Option, Some, None, List, [], ◌∷◌, length}
+use Rattle.std.specs.Prelude.{ℕ, ◌+◌, ◌-◌, ◌<◌, ◌≤◌, ◌≡◌, ◌==◌, ◌&&◌, not, nat_le, nat_lt, Bool, true, false, if◌then◌else◌, Option, Some, None, List, [], ◌∷◌, ◌++◌, length}
 use Rattle.dht_types.specs.Gfid.{Entry, root, anchor}
 use Rattle.dht_types.specs.Tree.{Node, IsFile}
 use Rattle.dht_types.specs.declared.identifiers.BrickNo.{BrickNo}
 use Rattle.dht_types.specs.declared.locks.Key.{Key}
 use Rattle.dht_types.specs.declared.locks.Key.TheVariants.{Dir, Entry as Name}
 use Rattle.dht_types.specs.declared.locks.Mode.TheVariants.{Shared, Exclusive}
+use Rattle.dht_hash.specs.DaviesMeyer.{dm}
+use Rattle.dht_xattr.specs.Layout.{holder}
+use Rattle.dht_xattr.specs.declared.range.Range.{Range}
 use Rattle.dht_brick.specs.declared.requests.Main.{Main}
 use Rattle.dht_brick.specs.declared.requests.Main.TheVariants.{File}
 use Rattle.dht_brick.specs.declared.requests.NameRequest.TheVariants.{Look}
 use Rattle.dht_brick.specs.declared.requests.Request.{Request}
 use Rattle.dht_brick.specs.declared.requests.Request.TheVariants.{Lock, Unlock, OnNames}
+use Rattle.dht_brick.specs.declared.requests.Reply.{Reply}
 use Rattle.dht_brick.specs.declared.machines.Ask.{Ask}
-use Rattle.dht_section.specs.Scene.{Disk, slot_at, lock_at, Scene}
+use Rattle.dht_section.specs.Replies.{is_no_memory, main_shown, range_shown}
+use Rattle.dht_section.specs.Scene.{Disk, slot_at, lock_at, ranges_below, layout_of, Scene}
 use Rattle.dht_section.specs.declared.section.Location.{Location}
 use Rattle.dht_section.specs.declared.section.Place.{Place}
+use Rattle.dht_section.specs.declared.section.Seen.{Seen}
 use Rattle.dht_section.specs.declared.section.Section.{Section}
 use Rattle.dht_section.specs.declared.section.Section.TheVariants.{LockingDirectory, LockingName, Looking}
 use Rattle.dht_section.specs.declared.section.Held.{Held}
@@ -41,25 +47,19 @@ lock_brick l = if l.bricks == 0 then 0 else anchor l.directory l.bricks
 abbrev pub section_asks : Section → Ask
 section_asks (LockingDirectory l) = record { brick = record { 0 = lock_brick l }; request = Lock (directory_key l) Shared }
 section_asks (LockingName l) = record { brick = record { 0 = lock_brick l }; request = Lock (name_key l) Exclusive }
-section_asks (Looking l b found) = record { brick = b; request = OnNames (Look l.directory l.name) }
+section_asks (Looking l b x) = record { brick = b; request = OnNames (Look l.directory l.name) }
 
 -- its directory and name
 abbrev pub section_location : Section → Location
 section_location (LockingDirectory l) = l
 section_location (LockingName l) = l
-section_location (Looking l b found) = l
+section_location (Looking l b x) = l
 
 -- how many requests it still sends
 abbrev pub section_left : Section → ℕ
 section_left (LockingDirectory l) = l.bricks + 2
 section_left (LockingName l) = l.bricks + 1
-section_left (Looking l b found) = l.bricks - b.0
-
--- it asks for the last of its looks
-abbrev pub is_last_look : Section → Bool
-is_last_look (LockingDirectory l) = false
-is_last_look (LockingName l) = false
-is_last_look (Looking l b found) = nat_le (l.bricks - b.0) 1
+section_left (Looking l b x) = l.bricks - b.0
 
 -- the locks that were asked for and not given back, the last first
 abbrev pub both_locks : Location → List Key
@@ -68,7 +68,7 @@ both_locks l = name_key l ∷ directory_key l ∷ []
 abbrev pub section_locks : Section → List Key
 section_locks (LockingDirectory l) = []
 section_locks (LockingName l) = directory_key l ∷ []
-section_locks (Looking l b found) = both_locks l
+section_locks (Looking l b x) = both_locks l
 
 abbrev pub stopped_locks : Stopped → List Key
 stopped_locks (Directory l) = directory_key l ∷ []
@@ -85,9 +85,31 @@ LocksBy (Unlock key) old new = old ≡ key ∷ new
 LocksBy (OnNames q) old new = new ≡ old
 
 -- what was found after a look at one more brick
-abbrev pub seen : Option Place → BrickNo → Option Main → Option Place
-seen found b None = found
-seen found b (Some (File f)) = Some (record { brick = b; file = f })
+abbrev pub found_then : Option Place → BrickNo → Option Main → Option Place
+found_then found b None = found
+found_then found b (Some (File f)) = Some (record { brick = b; file = f })
+
+-- the ranges with one more; a layout has 32 at most
+abbrev pub lengthened : List (Option Range) → Option Range → List (Option Range)
+lengthened ranges range = if nat_lt (length ranges) 32 then ranges ++ range ∷ [] else ranges
+
+-- what was seen after a look at one more brick
+abbrev pub seen : Seen → BrickNo → Reply → Seen
+seen x b r = record { place = found_then x.place b (main_shown r); layout = lengthened x.layout (range_shown r) }
+
+-- nothing was seen yet
+abbrev pub nothing_seen : Seen
+nothing_seen = record { place = None; layout = [] }
+
+-- the layout that is read by the last of the looks
+abbrev pub section_taught : Section → Reply → Option (List (Option Range))
+section_taught (LockingDirectory l) r = None
+section_taught (LockingName l) r = None
+section_taught (Looking l b x) r = if nat_le (l.bricks - b.0) 1 && not (is_no_memory r) then Some (lengthened x.layout (range_shown r)) else None
+
+-- the brick that holds the name, by the layout that was read
+abbrev pub held_holder : Held → Option ℕ
+held_holder h = holder h.layout (dm h.location.name)
 
 -- what was found at the bricks below the limit is what stands there
 abbrev pub Truth : Disk → Entry → ℕ → Option Place → Type 0
@@ -118,16 +140,17 @@ pub record LockingKnows (l : Location) (s : Scene) : Type 0 where
   pub fresh : IsFresh l s
   pub directory : lock_at s.disk l.directory (directory_key l) s.who ≡ Some Shared
 
-pub record LookingKnows (l : Location) (b : BrickNo) (found : Option Place) (s : Scene) : Type 0 where
+pub record LookingKnows (l : Location) (b : BrickNo) (x : Seen) (s : Scene) : Type 0 where
   pub fresh : IsFresh l s
   pub locked : Locked l s
   pub within : b.0 < l.bricks
-  pub truth : Truth s.disk (entry_at l) b.0 found
+  pub truth : Truth s.disk (entry_at l) b.0 x.place
+  pub read : x.layout ≡ ranges_below s.disk l.directory b.0
 
 abbrev pub SectionKnows : Section → Scene → Type 0
 SectionKnows (LockingDirectory l) s = IsFresh l s
 SectionKnows (LockingName l) s = LockingKnows l s
-SectionKnows (Looking l b found) s = LookingKnows l b found s
+SectionKnows (Looking l b x) s = LookingKnows l b x s
 
 -- at this line the tree has this at the name, and the call was running
 pub record SawAt (l : Location) (found : Option Place) (at : ℕ) (s : Scene) : Type 0 where
@@ -136,11 +159,12 @@ pub record SawAt (l : Location) (found : Option Place) (at : ℕ) (s : Scene) : 
   pub directory : (s.story.past at).dirs l.directory ≡ true
   pub node : (s.story.past at).names (entry_at l) ≡ node_of found
 
--- both locks are held, and what was found is all there is, now and at the last look's line
+-- both locks are held, what was found is all there is, now and at the last look's line, and the layout is the directory's
 pub record HoldsName (h : Held) (s : Scene) : Type 0 where
   pub fresh : IsFresh h.location s
   pub locked : Locked h.location s
   pub truth : Truth s.disk (entry_at h.location) s.disk.count h.found
+  pub read : h.layout ≡ layout_of s.disk h.location.directory
   pub saw : SawAt h.location h.found h.at s
 
 abbrev pub stopped_location : Stopped → Location
@@ -151,7 +175,7 @@ stopped_location (Both l) = l
 abbrev pub section_stopped : Section → Stopped
 section_stopped (LockingDirectory l) = Directory l
 section_stopped (LockingName l) = Both l
-section_stopped (Looking l b found) = Both l
+section_stopped (Looking l b x) = Both l
 
 abbrev pub outcome_location : Outcome → Location
 outcome_location (Holding h) = h.location

@@ -1,6 +1,6 @@
 -- The laws of the section as a machine.
-use Rattle.std.proofs.Common.{◌≡◌, ◌<◌, ◌≤◌, ℕ, sym, ◌∙◌, ap, subst, arith}
-use Rattle.std.specs.Prelude.{Option, Some, None, length}
+use Rattle.std.proofs.Common.{◌≡◌, ◌<◌, ◌≤◌, ℕ, refl, sym, ◌∙◌, ap, subst, arith}
+use Rattle.std.specs.Prelude.{zero, suc, Option, Some, None, List, [], ◌∷◌, ◌++◌, length}
 use Rattle.std.proofs.lemmas.Bool.Decides.{nat_tests}
 use Rattle.dht_types.specs.Gfid.{Entry, anchor}
 use Rattle.dht_types.specs.Tree.{Tree}
@@ -9,13 +9,26 @@ use Rattle.dht_types.specs.declared.identifiers.Gfid.{Gfid}
 use Rattle.dht_types.specs.declared.locks.Key.{Key}
 use Rattle.dht_types.specs.declared.locks.Mode.{Mode}
 use Rattle.dht_types.specs.declared.locks.Mode.TheVariants.{Shared, Exclusive}
-use Rattle.dht_section.specs.Scene.{Disk, slot_at, lock_at, Scene, Sound, Permitted, Others}
+use Rattle.dht_xattr.specs.declared.range.Range.{Range}
+use Rattle.dht_section.specs.Scene.{Disk, slot_at, lock_at, range_at, ranges_below, layout_of, Scene, Sound, Permitted, Others}
 use Rattle.dht_section.specs.Section.{entry_at, directory_key, name_key, lock_brick, section_asks, SectionKnows, Truth, HasPlace, IsFresh, Locked, SawAt, HoldsName}
 use Rattle.dht_section.specs.declared.section.Location.{Location}
 use Rattle.dht_section.specs.declared.section.Place.{Place}
 use Rattle.dht_section.specs.declared.section.Held.{Held}
 use Rattle.dht_section.specs.declared.section.Section.{Section}
 use Rattle.dht_section.specs.declared.section.Section.TheVariants.{LockingDirectory, LockingName, Looking}
+
+-- the same ranges, the same layout
+pub below_same : (d e : Disk) (g : Gfid) (n : ℕ) → ((b : ℕ) → range_at e g b ≡ range_at d g b) → ranges_below e g n ≡ ranges_below d g n
+unfolding ranges_below
+below_same d e g zero h = refl
+below_same d e g (suc n) h = ap (λ xs. xs ++ range_at e g n ∷ []) (below_same d e g n h) ∙ ap (λ x. ranges_below d g n ++ x ∷ []) (h n)
+
+pub layout_same : (d e : Disk) (g : Gfid) → e.count ≡ d.count → ((b : ℕ) → range_at e g b ≡ range_at d g b) → layout_of e g ≡ layout_of d g
+layout_same d e g c h = ap (ranges_below e g) c ∙ below_same d e g d.count h
+
+pub layout_stable : (s t : Scene) (g : Gfid) → Others s t → layout_of t.disk g ≡ layout_of s.disk g
+layout_stable s t g o = layout_same s.disk t.disk g o.count (o.ranges g)
 
 lock_brick_at : (l : Location) (n : ℕ) → 0 < n → n ≡ l.bricks → lock_brick l ≡ anchor l.directory n
 lock_brick_at l n h e = grind (arith, nat_tests, ap (anchor l.directory) e)
@@ -40,7 +53,7 @@ lock_brick_within l s sound h =
 pub section_permitted : (m : Section) (s : Scene) → Sound s → SectionKnows m s → Permitted s (section_asks m)
 section_permitted (LockingDirectory l) s sound h = record { there = lock_brick_within l s sound h.place; may = lock_brick_is l s sound h.place }
 section_permitted (LockingName l) s sound h = record { there = lock_brick_within l s sound h.fresh.place; may = lock_brick_is l s sound h.fresh.place }
-section_permitted (Looking l b found) s sound h = record {
+section_permitted (Looking l b x) s sound h = record {
   there = let c = bricks_are l s sound h.fresh.place in let w = h.within in omega arith;
   may = tt;
 }
@@ -79,11 +92,12 @@ saw_stable l found at s t h o =
 pub section_stable : (m : Section) (s t : Scene) → SectionKnows m s → Others s t → SectionKnows m t
 section_stable (LockingDirectory l) s t h o = fresh_stable l s t h o
 section_stable (LockingName l) s t h o = record { fresh = fresh_stable l s t h.fresh o; directory = lock_stable s t l.directory (directory_key l) Shared h.directory o }
-section_stable (Looking l b found) s t h o = record {
+section_stable (Looking l b x) s t h o = record {
   fresh = fresh_stable l s t h.fresh o;
   locked = locked_stable l s t h.locked o;
   within = h.within;
-  truth = truth_stable l b.0 found s t h.locked h.truth o;
+  truth = truth_stable l b.0 x.place s t h.locked h.truth o;
+  read = h.read ∙ sym (below_same s.disk t.disk l.directory b.0 (o.ranges l.directory));
 }
 
 -- a held name stays as it is, whatever others do
@@ -92,5 +106,6 @@ held_stable h s t k o = record {
   fresh = fresh_stable h.location s t k.fresh o;
   locked = locked_stable h.location s t k.locked o;
   truth = subst (λ (c : ℕ). Truth t.disk (entry_at h.location) c h.found) (sym o.count) (truth_stable h.location s.disk.count h.found s t k.locked k.truth o);
+  read = k.read ∙ sym (layout_stable s t h.location.directory o);
   saw = saw_stable h.location h.found h.at s t k.saw o;
 }

@@ -1,20 +1,23 @@
 //! The section: the guarded part of a call. It takes the locks of a directory and of a name in it,
 //! and then looks for the name on every brick.
 
-ghost use Rattle.std.specs.Prelude.{◌≡◌, ◌<◌, ℕ, false, [], None};
+ghost use Rattle.std.specs.Prelude.{◌≡◌, ◌<◌, ℕ, false, [], None, option_map};
 ghost use Rattle.dht_section.specs.Scene.{Scene, Sound, Moved};
 ghost use Rattle.dht_section.specs.Turns.{MatchTurn};
 ghost use Rattle.dht_section.specs.Replies.{is_no_memory};
-ghost use Rattle.dht_section.specs.Section.{lock_brick, seen, section_asks, section_left, section_location, section_locks, section_stopped, SectionKnows, OutcomeFact, outcome_location, outcome_locks, is_stopped, is_last_look, LocksBy, HasPlace};
+ghost use Rattle.dht_section.specs.Section.{lock_brick, found_then, lengthened, seen, nothing_seen, held_holder, section_asks, section_left, section_location, section_locks, section_stopped, section_taught, SectionKnows, OutcomeFact, outcome_location, outcome_locks, is_stopped, LocksBy, HasPlace};
 ghost use Rattle.dht_section.specs.SectionLaws.{section_permitted, section_stable};
 
 use super::machine::Machine;
-use super::replies::{is_no_memory, main_shown};
+use super::replies::{is_no_memory, main_shown, range_shown};
 use dht_brick::machines::{Ask, Turn};
 use dht_brick::requests::{Main, NameRequest, Reply, Request};
+use dht_hash::dm_hash;
 use dht_types::identifiers::{BrickNo, Gfid};
 use dht_types::locks::{Key, Mode};
 use dht_types::names::Name;
+use dht_xattr::layout::{Layout, MOST_RANGES, holder};
+use dht_xattr::range::Range;
 
 /// A name in a directory, of a volume of so many bricks.
 #[derive(Clone, Copy, Debug)]
@@ -51,8 +54,17 @@ pub enum Section {
     LockingDirectory(Location),
     /// The directory's lock is held.
     LockingName(Location),
-    /// Both locks are held, and this is what the bricks below this one have at the name.
-    Looking(Location, BrickNo, Option<Place>),
+    /// Both locks are held, and this is what the bricks below this one showed.
+    Looking(Location, BrickNo, Seen),
+}
+
+/// What some bricks showed of a name and of its directory.
+#[derive(Clone, Copy, Debug)]
+pub struct Seen {
+    /// Where the name is, if it is on one of them.
+    pub place: Option<Place>,
+    /// The range of the directory on each of them.
+    pub layout: Layout,
 }
 
 /// Both locks are held, and all bricks were looked at.
@@ -61,6 +73,8 @@ pub struct Held {
     pub location: Location,
     /// Where the name is, if it is anywhere.
     pub found: Option<Place>,
+    /// The layout of the directory.
+    pub layout: Layout,
     /// The number of the last look's line.
     pub at: u64,
 }
@@ -80,12 +94,56 @@ pub enum Outcome {
 }
 
 /// What was found after a look at one more brick.
-fn see(found: Option<Place>, brick: BrickNo, main: Option<Main>) -> Option<Place>
-    ensures { result ≡ seen found brick main }
+fn find(found: Option<Place>, brick: BrickNo, main: Option<Main>) -> Option<Place>
+    ensures { result ≡ found_then found brick main }
 {
     match main {
         Some(Main::File(file)) => Some(Place { brick, file }),
         None => found,
+    }
+}
+
+/// The layout with one range more. One of 32 ranges has one for each brick that a volume may have,
+/// and stays.
+pub fn lengthen(layout: Layout, range: Option<Range>) -> Layout
+    ensures { result ≡ lengthened layout range }
+{
+    if layout.as_slice().len() < MOST_RANGES {
+        layout.with(range)
+    } else {
+        layout
+    }
+}
+
+impl Seen {
+    /// What no brick showed.
+    fn nothing() -> Seen
+        ensures { result ≡ nothing_seen }
+    {
+        Seen {
+            place: None,
+            layout: Layout::empty(),
+        }
+    }
+
+    /// What was seen after a look at one more brick.
+    fn with(&self, brick: BrickNo, reply: &Reply) -> Seen
+        ensures { result ≡ seen self.now brick reply.now }
+    {
+        Seen {
+            place: find(self.place, brick, main_shown(reply)),
+            layout: lengthen(self.layout, range_shown(reply)),
+        }
+    }
+}
+
+impl Held {
+    /// The brick that holds the name: the first whose range contains the name's hash. None where the
+    /// layout has a hole there.
+    pub fn holder(&self) -> Option<BrickNo>
+        ensures { option_map (λ b. b.0) result ≡ held_holder self.now }
+    {
+        holder(&self.layout, dm_hash(self.location.name.as_bytes()))
     }
 }
 
@@ -110,14 +168,21 @@ impl Section {
         }
     }
 
-    /// Whether it asks for the last of its looks.
-    pub fn is_last_look(&self) -> bool
-        ensures { result ≡ is_last_look self.now }
+    /// The layout of the directory, where this reply to its request is the last look's.
+    pub fn taught(&self, reply: &Reply) -> Option<Layout>
+        ensures { result ≡ section_taught self.now reply.now }
     {
         match self {
-            Section::LockingDirectory(_) => false,
-            Section::LockingName(_) => false,
-            Section::Looking(location, brick, _) => location.bricks.saturating_sub(brick.0) <= 1,
+            Section::LockingDirectory(_) => None,
+            Section::LockingName(_) => None,
+            Section::Looking(location, brick, seen) => {
+                let is_last = location.bricks.saturating_sub(brick.0) <= 1;
+                if is_last && !is_no_memory(reply) {
+                    Some(lengthen(seen.layout, range_shown(reply)))
+                } else {
+                    None
+                }
+            }
         }
     }
 }
@@ -167,17 +232,18 @@ impl Machine for Section {
         match self {
             Section::LockingDirectory(location) => Turn::Go(Section::LockingName(location)),
             Section::LockingName(location) => {
-                Turn::Go(Section::Looking(location, BrickNo(0), None))
+                Turn::Go(Section::Looking(location, BrickNo(0), Seen::nothing()))
             }
-            Section::Looking(location, brick, found) => {
-                let found = see(found, brick, main_shown(&reply));
+            Section::Looking(location, brick, seen) => {
+                let seen = seen.with(brick, &reply);
                 let next = brick.0.saturating_add(1);
                 if next < location.bricks {
-                    Turn::Go(Section::Looking(location, BrickNo(next), found))
+                    Turn::Go(Section::Looking(location, BrickNo(next), seen))
                 } else {
                     Turn::Done(Outcome::Held(Held {
                         location,
-                        found,
+                        found: seen.place,
+                        layout: seen.layout,
                         at,
                     }))
                 }

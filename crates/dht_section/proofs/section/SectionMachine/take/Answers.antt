@@ -17,12 +17,12 @@ returns-in-LockingDirectory-clause-moves c = λ s t sound after knows moved at.
 
 pub returns-in-LockingName-clause-moves : goal.returns-in-LockingName-clause-moves
 returns-in-LockingName-clause-moves c = λ s t sound after knows moved at.
-    take_name c.args.self c.in-LockingName.location c.args.reply s t c.in-LockingName.is (sym c.if-is_no_memory.ensures) sound after knows moved
+    take_name c.args.self c.in-LockingName.location c.nothing.result c.args.reply s t c.in-LockingName.is (sym c.if-is_no_memory.ensures) c.nothing.ensures sound after knows moved
 
 pub returns-then-next-location-clause-moves : goal.returns-then-next-location-clause-moves
 returns-then-next-location-clause-moves c = λ s t sound after knows moved at.
-    take_look c.args.self c.in-Looking.location c.in-Looking.brick c.in-Looking.found c.see-found.result c.saturating_add-next.result c.args.reply s t c.in-Looking.is (sym c.if-is_no_memory.ensures) (c.see-found.ensures ∙ ap (λ x. seen c.in-Looking.found c.in-Looking.brick x) c.main_shown.ensures) (omega arith) c.if-next-location.true sound knows moved
+    take_look c.args.self c.in-Looking.location c.in-Looking.brick c.in-Looking.seen c.with-seen.result c.saturating_add-next.result c.args.reply s t c.in-Looking.is (sym c.if-is_no_memory.ensures) c.with-seen.ensures (omega arith) c.if-next-location.true sound knows moved
 
 pub returns-else-next-location-clause-moves : goal.returns-else-next-location-clause-moves
 returns-else-next-location-clause-moves c = λ s t sound after knows moved at.
-    take_last c.args.self c.in-Looking.location c.in-Looking.brick c.in-Looking.found c.see-found.result c.args.at c.args.reply s t c.in-Looking.is (sym c.if-is_no_memory.ensures) (c.see-found.ensures ∙ ap (λ x. seen c.in-Looking.found c.in-Looking.brick x) c.main_shown.ensures) (omega arith) at sound after knows moved
+    take_last c.args.self c.in-Looking.location c.in-Looking.brick c.in-Looking.seen c.with-seen.result c.args.at c.args.reply s t c.in-Looking.is (sym c.if-is_no_memory.ensures) c.with-seen.ensures (omega arith) at sound after knows moved
