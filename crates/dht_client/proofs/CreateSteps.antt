@@ -1,7 +1,8 @@
 -- The steps of a create: within its section, the making of the file, and within its closing.
-use Rattle.std.proofs.Common.{◌≡◌, ◌<◌, ◌≤◌, ◌+◌, ℕ, List, refl, sym, ◌∙◌, ap, subst, arith, true, false}
-use Rattle.std.specs.Prelude.{Option, Some, None, is_none, ◌&&◌, if◌then◌else◌}
-use Rattle.dht_types.specs.Gfid.{made}
+use Rattle.std.proofs.Common.{◌≡◌, ◌<◌, ◌≤◌, ◌+◌, ◌*◌, ◌/◌, ◌%◌, ◌^◌, ℕ, List, refl, sym, ◌∙◌, ap, subst, arith, true, false}
+use Rattle.std.specs.Prelude.{Option, Some, None, is_none, unwrap_or, option_map, ◌&&◌, if◌then◌else◌}
+use Rattle.std.proofs.lemmas.Nat.{div-mul-add, mod-mul-add}
+use Rattle.dht_types.specs.Gfid.{made, call_of}
 use Rattle.dht_types.specs.Story.{Deeds, Tells, deeds_after}
 use Rattle.dht_types.specs.declared.identifiers.Gfid.{Gfid}
 use Rattle.dht_types.specs.declared.identifiers.ClientNo.{ClientNo}
@@ -28,9 +29,17 @@ use Rattle.dht_section.proofs.SectionSteps.{in_dir_there, root_there, place_move
 use Rattle.dht_section.specs.declared.section.Location.{Location}
 use Rattle.dht_section.specs.declared.section.Section.{Section}
 use Rattle.dht_section.specs.declared.closing.Closing.{Closing}
-use Rattle.dht_client.specs.Layout.{holder_of}
-use Rattle.dht_client.specs.LookupLaws.{holder_there}
-use Rattle.dht_client.specs.Create.{create_asks, create_left, CreateKnows, Makes, SecuresCreate, IsFree}
+use Rattle.dht_hash.specs.DaviesMeyer.{dm}
+use Rattle.dht_xattr.specs.Layout.{holder}
+use Rattle.dht_types.specs.declared.identifiers.BrickNo.{BrickNo}
+use Rattle.dht_section.specs.Section.{entry_at, Truth, HoldsName, held_holder, outcome_location, OutcomeFact}
+use Rattle.dht_section.specs.declared.section.Outcome.{Outcome}
+use Rattle.dht_section.specs.declared.section.Outcome.TheVariants.{Held as Holding}
+use Rattle.dht_section.specs.declared.section.Place.{Place}
+use Rattle.dht_section.specs.declared.section.Held.{Held}
+use Rattle.dht_client.specs.LayoutLaws.{has_holder}
+use Rattle.dht_client.specs.Create.{create_asks, create_left, new_file, CreateKnows, ComesOf, Makes, SecuresCreate, IsFree}
+use Rattle.dht_client.specs.declared.create.Origin.{Origin}
 use Rattle.dht_client.specs.CreateLaws.{free_says, file_free}
 use Rattle.dht_client.specs.declared.create.NewFile.{NewFile}
 use Rattle.dht_client.specs.declared.create.CreateCall.{CreateCall}
@@ -39,31 +48,67 @@ use Rattle.dht_client.specs.declared.create.CreateCall.TheVariants.{Securing, Cr
 pub same_made : (n k : ℕ) (c d : ClientNo) (x y : CallNo) (h : ℕ) → k ≡ n → d ≡ c → y ≡ x → made n c x h ≡ made k d y h
 same_made n k c d x y h e f g = ap (λ (i : ℕ). made i c x h) (sym e) ∙ (ap (λ (i : ClientNo). made k i x h) (sym f) ∙ ap (λ (i : CallNo). made k d i h) (sym g))
 
--- the call makes the same file still
-makes_moved : (x : NewFile) (l k : Location) (m : Section) (s t : Scene) (r : Reply) → k ≡ l → Makes x l s → Moved s (section_asks m) r t → Makes x k t
-makes_moved x l k m s t r e h mv = record {
+-- the call's number stands in the gfid
+call_made : (run : ℕ) (c : ClientNo) (k : CallNo) (h : ℕ) → k.0 < 2 ^ 64 → h < 65536 → call_of (made run c k h) ≡ k.0
+call_made run c k h small few =
+    let high : ℕ = run * 65536 + c.0 in
+    let e : (made run c k h).0 ≡ (high * 18446744073709551616 + k.0) * 65536 + h = omega arith in
+    ap (λ x. x / 65536 % 18446744073709551616) e
+    ∙ (ap (λ x. x % 18446744073709551616) (div-mul-add (high * 18446744073709551616 + k.0) 65536 h few)
+    ∙ mod-mul-add high 18446744073709551616 k.0 small)
+
+-- the file of the call's origin is the call's own
+makes_own : (o : Origin) (b : ℕ) (l : Location) (s : Scene) → Sound s → b < s.disk.count → ComesOf o l s → Makes (new_file o b) l s
+makes_own o b l s sound there h = record {
+  call = h.call;
+  there = there;
+  file = same_made o.run s.story.run o.client s.who o.call s.mine.number b (sym h.run) (sym h.client) (sym h.number);
+  numbered = call_made o.run o.client o.call b h.small (let few = sound.kept.few in omega arith) ∙ ap (λ (i : CallNo). i.0) h.number;
+}
+
+-- under both locks, where no brick has the name, the file may go to the name's holder
+pub held_free : (o : Origin) (h : Held) (x : NewFile) (s : Scene) → h.found ≡ None → x ≡ new_file o (unwrap_or (held_holder h) 0) → Sound s → ComesOf o h.location s → HoldsName h s → IsFree x h.location s
+held_free o h x s e new sound comes k =
+    let l = h.location in
+    let w = has_holder s l.directory l.name sound k.fresh.place.root in
+    let holder_is : held_holder h ≡ Some w.brick = ap (λ ranges. holder ranges (dm l.name)) k.read ∙ w.holds in
+    subst (λ (y : NewFile). IsFree y l s) (sym (new ∙ ap (λ i. new_file o (unwrap_or i 0)) holder_is)) (record {
+      makes = makes_own o w.brick l s sound w.there comes;
+      fresh = k.fresh;
+      locked = k.locked;
+      empty = subst (λ (i : Option Place). Truth s.disk (entry_at l) s.disk.count i) e k.truth;
+      holds = w.holds;
+    })
+
+pub secured_free : (o : Origin) (out : Outcome) (h : Held) (holder : Option BrickNo) (x : NewFile) (s : Scene) → out ≡ Holding h → h.found ≡ None → option_map (λ (b : BrickNo). b.0) holder ≡ held_holder h → x ≡ new_file o (unwrap_or (option_map (λ (b : BrickNo). b.0) holder) 0) → Sound s → ComesOf o (outcome_location out) s → OutcomeFact out s → IsFree x h.location s
+secured_free o out h holder x s e none at new sound comes k = held_free o h x s none (new ∙ ap (λ i. new_file o (unwrap_or i 0)) at) sound (rw e at comes) (rw e at k)
+
+-- the call is still the create of this origin
+comes_moved : (o : Origin) (l k : Location) (m : Section) (s t : Scene) (r : Reply) → k ≡ l → ComesOf o l s → Moved s (section_asks m) r t → ComesOf o k t
+comes_moved o l k m s t r e h mv = record {
   call = mv.call ∙ (h.call ∙ ap (λ (i : Location). Create i.directory i.name) (sym e));
-  holder = h.holder ∙ ap holder_of (sym mv.weights);
-  file = h.file ∙ same_made s.story.run t.story.run s.who t.who s.mine.number t.mine.number x.holder.0 mv.run mv.who mv.number;
-  numbered = h.numbered ∙ ap (λ (i : CallNo). i.0) (sym mv.number);
+  run = h.run ∙ sym mv.run;
+  client = h.client ∙ sym mv.who;
+  number = h.number ∙ sym mv.number;
+  small = h.small;
 }
 
 -- the section's own step
-pub record SectionRuns (x : NewFile) (m : Section) (s : Scene) (r : Reply) (t : Scene) : Type 0 where
-  pub makes : Makes x (section_location m) s
+pub record SectionRuns (o : Origin) (m : Section) (s : Scene) (r : Reply) (t : Scene) : Type 0 where
+  pub comes : ComesOf o (section_location m) s
   pub knows : SectionKnows m s
   pub moved : Moved s (section_asks m) r t
 
-pub section_runs : (c : CreateCall) (x : NewFile) (m : Section) (r : Reply) (s t : Scene) → c ≡ Securing x m → CreateKnows c s → Moved s (create_asks c) r t → SectionRuns x m s r t
-section_runs c x m r s t e h mv = let k : SecuresCreate x m s = rw e at h in record { makes = k.makes; knows = k.section; moved = rw e at mv }
+pub section_runs : (c : CreateCall) (o : Origin) (m : Section) (r : Reply) (s t : Scene) → c ≡ Securing o m → CreateKnows c s → Moved s (create_asks c) r t → SectionRuns o m s r t
+section_runs c o m r s t e h mv = let k : SecuresCreate o m s = rw e at h in record { comes = k.comes; knows = k.section; moved = rw e at mv }
 
-pub makes_at : (x : NewFile) (l : Location) (m : Section) (r : Reply) (s t : Scene) → SectionRuns x m s r t → l ≡ section_location m → Makes x l t
-makes_at x l m r s t q e = makes_moved x (section_location m) l m s t r e q.makes q.moved
+pub comes_at : (o : Origin) (l : Location) (m : Section) (r : Reply) (s t : Scene) → SectionRuns o m s r t → l ≡ section_location m → ComesOf o l t
+comes_at o l m r s t q e = comes_moved o (section_location m) l m s t r e q.comes q.moved
 
-pub take_section : (c : CreateCall) (x : NewFile) (m n : Section) (r : Reply) (s t : Scene) → c ≡ Securing x m → SectionRuns x m s r t → section_location n ≡ section_location m → SectionKnows n t × (section_left n < section_left m) → SecuresCreate x n t × (section_left n + 3 < create_left c)
-take_section c x m n r s t e q l h = (record { makes = makes_at x (section_location n) m r s t q l; section = h.0 }, let k = h.1 in rw e (omega arith))
+pub take_section : (c : CreateCall) (o : Origin) (m n : Section) (r : Reply) (s t : Scene) → c ≡ Securing o m → SectionRuns o m s r t → section_location n ≡ section_location m → SectionKnows n t × (section_left n < section_left m) → SecuresCreate o n t × (section_left n + 3 < create_left c)
+take_section c o m n r s t e q l h = (record { comes = comes_at o (section_location n) m r s t q l; section = h.0 }, let k = h.1 in rw e (omega arith))
 
-pub take_outcome : (c d : CreateCall) (x : NewFile) (m : Section) (r : Reply) (s t : Scene) → c ≡ Securing x m → SectionRuns x m s r t → create_left d ≤ 3 → CreateKnows d t → CreateKnows d t × (create_left d < create_left c)
+pub take_outcome : (c d : CreateCall) (x : Origin) (m : Section) (r : Reply) (s t : Scene) → c ≡ Securing x m → SectionRuns x m s r t → create_left d ≤ 3 → CreateKnows d t → CreateKnows d t × (create_left d < create_left c)
 take_outcome c d x m r s t e q l h = (h, let a = section_goes_on m s q.knows in rw e (omega arith))
 
 -- the holder has neither the name nor the file, so the create is carried out
@@ -78,7 +123,7 @@ no_file d f (Some bytes) b h e l = absurd (let q : Some bytes ≡ None = e in cc
 
 carried : (x : NewFile) (l : Location) (r : Reply) (s t : Scene) → Sound s → is_no_memory r ≡ false → IsFree x l s → Moved s (create_asks (Creating x l)) r t → r ≡ Carried Nothing
 carried x l r s t sound z h m =
-    let there = holder_there x.holder.0 s sound h.makes.holder in
+    let there = h.makes.there in
     let c : Contents = s.disk.brick x.holder.0 in
     let free : is_free c (l.directory, l.name) x.file ≡ true = free_if (slot c (l.directory, l.name)) (file c x.file) (h.empty x.holder.0 there) (no_file s.disk x.file (s.story.tree.bytes x.file) x.holder.0 (sound.kept.stands.bytes x.file) (file_free x l s sound h) there) in
     row_reply s t _ r m z

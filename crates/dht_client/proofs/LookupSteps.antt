@@ -1,17 +1,98 @@
 -- The steps of a lookup within its section and its closing.
-use Rattle.std.proofs.Common.{◌≡◌, ◌<◌, ◌+◌, sym, ◌∙◌, ap, arith}
+use Rattle.std.proofs.Common.{◌≡◌, ◌<◌, ◌≤◌, ◌+◌, ◌-◌, ℕ, Bool, true, false, List, [], refl, sym, ◌∙◌, ap, arith}
+use Rattle.std.specs.Prelude.{Option, Some, None, nat_lt, nat_le, if◌then◌else◌}
+use Rattle.std.proofs.lemmas.Bool.Decides.{nat_tests}
 use Rattle.dht_types.specs.declared.calls.Call.TheVariants.{Lookup}
 use Rattle.dht_brick.specs.declared.requests.Reply.{Reply}
-use Rattle.dht_section.specs.Scene.{Scene, Moved}
+use Rattle.dht_section.specs.Scene.{Scene, Sound, Moved}
+use Rattle.dht_section.specs.SectionLaws.{bricks_are}
 use Rattle.dht_section.specs.Section.{section_asks, section_left, section_location, SectionKnows}
 use Rattle.dht_section.specs.Closing.{closing_asks, closing_left, ClosingKnows}
 use Rattle.dht_section.proofs.SectionSteps.{section_goes_on, closing_short}
 use Rattle.dht_section.specs.declared.section.Location.{Location}
 use Rattle.dht_section.specs.declared.section.Section.{Section}
 use Rattle.dht_section.specs.declared.closing.Closing.{Closing}
-use Rattle.dht_client.specs.Lookup.{IsLookup, lookup_asks, lookup_left, LookupKnows, SecuresLookup}
+use Rattle.dht_types.specs.declared.identifiers.BrickNo.{BrickNo}
+use Rattle.dht_types.specs.declared.locks.Key.{Key}
+use Rattle.dht_xattr.specs.declared.range.Range.{Range}
+use Rattle.dht_section.proofs.SectionSteps.{fresh_moved}
+use Rattle.dht_section.specs.Section.{IsFresh}
+use Rattle.dht_section.specs.declared.section.Section.TheVariants.{LockingDirectory}
+use Rattle.dht_client.specs.Layout.{holder_in}
+use Rattle.dht_client.specs.Lookup.{IsLookup, Seeks, Surveys, aimed_at, aimed, surveyed, lookup_asks, lookup_left, lookup_locks, lookup_starved, LookupKnows, SecuresLookup}
+use Rattle.dht_client.specs.declared.lookup.Sought.{Sought}
 use Rattle.dht_client.specs.declared.lookup.LookupCall.{LookupCall}
-use Rattle.dht_client.specs.declared.lookup.LookupCall.TheVariants.{Securing, Ending}
+use Rattle.dht_client.specs.declared.lookup.LookupCall.TheVariants.{Surveying, LookingAtHolder, Securing, Ending}
+
+-- a lookup that aims at a brick of the volume, or at none
+data Aim (l : Location) : LookupCall → Type 0 where
+  AtHolder : (b : ℕ) → b < l.bricks → Aim l (LookingAtHolder (record { location = l; holder = record { 0 = b } }))
+  Everywhere : Aim l (Securing (LockingDirectory l))
+
+aim_by : (l : Location) (b : ℕ) (v : Bool) → nat_lt b l.bricks ≡ v → Aim l (if v then LookingAtHolder (record { location = l; holder = record { 0 = b } }) else Securing (LockingDirectory l))
+aim_by l b true e = AtHolder b (grind (arith, nat_tests, e))
+aim_by l b false e = Everywhere
+
+aim_at : (l : Location) (o : Option ℕ) → Aim l (aimed_at l o)
+aim_at l None = Everywhere
+aim_at l (Some b) = aim_by l b (nat_lt b l.bricks) refl
+
+aim_knows : (l : Location) (m : LookupCall) (s : Scene) → Aim l m → IsLookup l s → IsFresh l s → LookupKnows m s
+aim_knows l m s (AtHolder b within) call fresh = record { call = call; within = within; fresh = fresh }
+aim_knows l m s Everywhere call fresh = record { call = call; section = fresh }
+
+aim_left : (l : Location) (m : LookupCall) → Aim l m → lookup_left m ≤ l.bricks + 5
+aim_left l m (AtHolder b within) = omega arith
+aim_left l m Everywhere = omega arith
+
+aim_locks : (l : Location) (m : LookupCall) → Aim l m → lookup_locks m ≡ []
+aim_locks l m (AtHolder b within) = refl
+aim_locks l m Everywhere = refl
+
+aim_fed : (l : Location) (m : LookupCall) → Aim l m → lookup_starved m ≡ false
+aim_fed l m (AtHolder b within) = refl
+aim_fed l m Everywhere = refl
+
+pub aimed_knows : (l : Location) (ranges : List (Option Range)) (s : Scene) → IsLookup l s → IsFresh l s → LookupKnows (aimed l ranges) s
+aimed_knows l ranges s call fresh = aim_knows l _ s (aim_at l (holder_in ranges l.name)) call fresh
+
+pub aimed_left : (l : Location) (ranges : List (Option Range)) → lookup_left (aimed l ranges) ≤ l.bricks + 5
+aimed_left l ranges = aim_left l _ (aim_at l (holder_in ranges l.name))
+
+pub aimed_locks : (l : Location) (ranges : List (Option Range)) → lookup_locks (aimed l ranges) ≡ []
+aimed_locks l ranges = aim_locks l _ (aim_at l (holder_in ranges l.name))
+
+pub aimed_fed : (l : Location) (ranges : List (Option Range)) → lookup_starved (aimed l ranges) ≡ false
+aimed_fed l ranges = aim_fed l _ (aim_at l (holder_in ranges l.name))
+
+-- after one brick more has given the directory's record
+survey_by : (l : Location) (b : BrickNo) (ranges : List (Option Range)) (v : Bool) (s : Scene) → nat_le (l.bricks - b.0) 1 ≡ v → b.0 < l.bricks → IsLookup l s → IsFresh l s → LookupKnows (if v then aimed l ranges else Surveying l (record { 0 = b.0 + 1 }) ranges) s × (lookup_left (if v then aimed l ranges else Surveying l (record { 0 = b.0 + 1 }) ranges) < (l.bricks - b.0) + l.bricks + 5)
+survey_by l b ranges true s e within call fresh = (aimed_knows l ranges s call fresh, let a = aimed_left l ranges in omega arith)
+survey_by l b ranges false s e within call fresh = (record { call = call; fresh = fresh; within = λ some. grind (arith, nat_tests, e) }, grind (arith, nat_tests, e))
+
+survey_step : (l : Location) (b : BrickNo) (old ranges : List (Option Range)) (r : Reply) (s t : Scene) → Sound s → Surveys l b s → Moved s (lookup_asks (Surveying l b old)) r t → LookupKnows (surveyed l b ranges) t × (lookup_left (surveyed l b ranges) < (l.bricks - b.0) + l.bricks + 5)
+survey_step l b old ranges r s t sound h m =
+    let bricks = bricks_are l s sound h.fresh.place in
+    let some = sound.kept.some_brick in
+    let l0 : 0 < l.bricks = omega arith in
+    survey_by l b ranges (nat_le (l.bricks - b.0) 1) t refl (h.within l0) (m.call ∙ h.call) (fresh_moved l s t _ r tt h.fresh m)
+
+pub take_survey : (c n : LookupCall) (l : Location) (b : BrickNo) (old ranges : List (Option Range)) (r : Reply) (s t : Scene) → c ≡ Surveying l b old → n ≡ surveyed l b ranges → Sound s → LookupKnows c s → Moved s (lookup_asks c) r t → LookupKnows n t × (lookup_left n < lookup_left c)
+take_survey c n l b old ranges r s t e f sound h mv = rw f (rw e (survey_step l b old ranges r s t sound (rw e at h) (rw e at mv)))
+
+pub surveyed_locks : (l : Location) (b : BrickNo) (ranges : List (Option Range)) → lookup_locks (surveyed l b ranges) ≡ []
+surveyed_locks l b ranges = by (nat_le (l.bricks - b.0) 1)
+  where
+    by : (v : Bool) → lookup_locks (if v then aimed l ranges else Surveying l (record { 0 = b.0 + 1 }) ranges) ≡ []
+    by true = aimed_locks l ranges
+    by false = refl
+
+pub surveyed_fed : (l : Location) (b : BrickNo) (ranges : List (Option Range)) → lookup_starved (surveyed l b ranges) ≡ false
+surveyed_fed l b ranges = by (nat_le (l.bricks - b.0) 1)
+  where
+    by : (v : Bool) → lookup_starved (if v then aimed l ranges else Surveying l (record { 0 = b.0 + 1 }) ranges) ≡ false
+    by true = aimed_fed l ranges
+    by false = refl
 
 -- the section's own step
 pub record SectionRuns (m : Section) (s : Scene) (r : Reply) (t : Scene) : Type 0 where

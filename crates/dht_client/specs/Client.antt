@@ -1,8 +1,7 @@
 -- What a client asks and knows: what its running call does.
-use Rattle.std.specs.Prelude.{ℕ, ◌+◌, ◌*◌, Bool, true, false, is_some, ◌==◌, if◌then◌else◌, Option, Some, None, List, [], length}
-use Rattle.dht_types.specs.Gfid.{root, anchor, made}
+use Rattle.std.specs.Prelude.{ℕ, ◌+◌, ◌*◌, Bool, true, false, is_some, nat_lt, ◌==◌, if◌then◌else◌, Option, Some, None, List, [], length}
+use Rattle.dht_types.specs.Gfid.{root, anchor}
 use Rattle.dht_types.specs.declared.identifiers.Gfid.{Gfid}
-use Rattle.dht_types.specs.declared.identifiers.BrickNo.{BrickNo}
 use Rattle.dht_types.specs.declared.identifiers.CallNo.{CallNo}
 use Rattle.dht_types.specs.declared.identifiers.ClientNo.{ClientNo}
 use Rattle.dht_types.specs.declared.calls.Call.{Call}
@@ -15,12 +14,12 @@ use Rattle.dht_brick.specs.declared.requests.Request.TheVariants.{Lock, OnNames}
 use Rattle.dht_brick.specs.declared.requests.Reply.{Reply}
 use Rattle.dht_brick.specs.declared.machines.Ask.{Ask}
 use Rattle.dht_section.specs.Scene.{Scene}
-use Rattle.dht_client.specs.Layout.{holder_of}
-use Rattle.dht_client.specs.Program.{program_asks, program_left, program_locks, program_starved, ProgramKnows, teaches}
+use Rattle.dht_xattr.specs.declared.range.Range.{Range}
+use Rattle.dht_client.specs.Layout.{holder_in}
+use Rattle.dht_client.specs.Program.{program_asks, program_left, program_locks, program_starved, program_taught, ProgramKnows}
 use Rattle.dht_section.specs.declared.section.Location.{Location}
 use Rattle.dht_client.specs.Lookup.{first_lookup}
 use Rattle.dht_client.specs.Create.{first_create}
-use Rattle.dht_client.specs.declared.create.NewFile.{NewFile}
 use Rattle.dht_client.specs.declared.program.Program.{Program}
 use Rattle.dht_client.specs.declared.program.Program.TheVariants.{LookingUp, Creating}
 use Rattle.dht_client.specs.declared.client.Client.{Client}
@@ -28,8 +27,9 @@ use Rattle.dht_client.specs.declared.client.Client.{Client}
 abbrev pub client_number : Client → ClientNo
 client_number c = c.number
 
-abbrev pub knows_layout : Client → Bool
-knows_layout c = c.knows_layout
+-- the layout of the root that it has read, if it has read one
+abbrev pub client_layout : Client → Option (List (Option Range))
+client_layout c = c.layout
 
 abbrev pub client_is_busy : Client → Bool
 client_is_busy c = is_some c.running
@@ -66,13 +66,13 @@ is_starved (Some m) = program_starved m
 abbrev pub client_starved : Client → Bool
 client_starved c = is_starved c.running
 
-abbrev pub taught_by : Option Program → Reply → Bool
-taught_by None r = false
-taught_by (Some m) r = teaches m r
+abbrev pub taught_by : Option Program → Reply → Option (List (Option Range))
+taught_by None r = None
+taught_by (Some m) r = program_taught m r
 
--- the reply is the last of those by which every brick has shown its part of the layout
-abbrev pub client_teaches : Client → Reply → Bool
-client_teaches c r = taught_by c.running r
+-- the layout that its call has read by this reply, if every brick has shown its range now
+abbrev pub client_taught : Client → Reply → Option (List (Option Range))
+client_taught c r = taught_by c.running r
 
 abbrev pub RunningKnows : Option Program → Scene → Type 0
 RunningKnows None s = Unit {0}
@@ -81,28 +81,31 @@ RunningKnows (Some m) s = ProgramKnows m s
 abbrev pub ClientKnows : Client → Scene → Type 0
 ClientKnows c s = RunningKnows c.running s
 
--- the name of a call, the brick that it belongs to, and the file that the call makes
+-- the name of a call
 abbrev pub place_at : Gfid → List ℕ → List ℕ → Location
 place_at d n ws = record { directory = d; name = n; bricks = length ws }
 
-abbrev pub holder_at : List ℕ → BrickNo
-holder_at ws = record { 0 = holder_of ws }
-
-abbrev pub new_file : List ℕ → ℕ → ClientNo → CallNo → NewFile
-new_file ws run c k = record { file = made run c k (holder_of ws); holder = holder_at ws }
-
 -- the program of a call at its beginning
 abbrev pub first_program : Client → List ℕ → ℕ → CallNo → Call → Program
-first_program c ws run k (Lookup d n) = LookingUp (first_lookup (record { location = place_at d n ws; holder = holder_at ws }) c.knows_layout)
-first_program c ws run k (Create d n) = Creating (first_create (place_at d n ws) (new_file ws run c.number k))
+first_program c ws run k (Lookup d n) = LookingUp (first_lookup (place_at d n ws) c.layout)
+first_program c ws run k (Create d n) = Creating (first_create (place_at d n ws) (record { run = run; client = c.number; call = k }))
 
--- the first request of a call, by a client that knows the layout or does not
-abbrev pub first_ask : Bool → List ℕ → Call → Ask
-first_ask true ws (Lookup d n) = record { brick = record { 0 = holder_of ws }; request = OnNames (Look d n) }
-first_ask false ws (Lookup d n) = record { brick = record { 0 = 0 }; request = OnNames (Dirinfo d) }
-first_ask known ws (Create d n) = record { brick = record { 0 = if length ws == 0 then 0 else anchor d (length ws) }; request = Lock (Dir d) Shared }
+-- the first request of a part under locks
+abbrev pub first_lock : Gfid → List ℕ → Ask
+first_lock d ws = record { brick = record { 0 = if length ws == 0 then 0 else anchor d (length ws) }; request = Lock (Dir d) Shared }
 
--- how many requests a call sends at most, over so many bricks
+-- the first request of a lookup that knows the layout: it looks at the holder, if a brick of the volume is one
+abbrev pub first_look : Gfid → List ℕ → List ℕ → Option ℕ → Ask
+first_look d n ws None = first_lock d ws
+first_look d n ws (Some b) = if nat_lt b (length ws) then record { brick = record { 0 = b }; request = OnNames (Look d n) } else first_lock d ws
+
+-- the first request of a call, by a client that knows this layout or none
+abbrev pub first_ask : Option (List (Option Range)) → List ℕ → Call → Ask
+first_ask (Some ranges) ws (Lookup d n) = first_look d n ws (holder_in ranges n)
+first_ask None ws (Lookup d n) = record { brick = record { 0 = 0 }; request = OnNames (Dirinfo d) }
+first_ask known ws (Create d n) = first_lock d ws
+
+-- how many requests a call sends at most, over so many bricks, by a client that knows the layout or does not
 abbrev pub most_steps : Bool → ℕ → Call → ℕ
 most_steps true n (Lookup d m) = n + 5
 most_steps false n (Lookup d m) = 2 * n + 5

@@ -17,9 +17,11 @@ use Rattle.dht_section.specs.Section.{entry_at}
 use Rattle.dht_section.specs.SectionLaws.{section_permitted, section_stable, fresh_stable, locked_stable}
 use Rattle.dht_section.specs.ClosingLaws.{closing_permitted, closing_stable}
 use Rattle.dht_section.specs.declared.section.Location.{Location}
-use Rattle.dht_client.specs.Layout.{holder_of}
-use Rattle.dht_client.specs.LookupLaws.{holder_there}
-use Rattle.dht_client.specs.Create.{create_asks, CreateKnows, Makes, IsFree}
+use Rattle.dht_hash.specs.DaviesMeyer.{dm}
+use Rattle.dht_xattr.specs.Layout.{holder}
+use Rattle.dht_section.specs.SectionLaws.{layout_stable}
+use Rattle.dht_client.specs.Create.{create_asks, CreateKnows, ComesOf, Makes, IsFree}
+use Rattle.dht_client.specs.declared.create.Origin.{Origin}
 use Rattle.dht_client.specs.declared.create.NewFile.{NewFile}
 use Rattle.dht_client.specs.declared.create.CreateCall.{CreateCall}
 use Rattle.dht_client.specs.declared.create.CreateCall.TheVariants.{Securing, Creating, Ending}
@@ -41,18 +43,27 @@ wants_file : (x : NewFile) (l : Location) (s : Scene) → Sound s → IsFree x l
 wants_file x l s sound h = record {
   next = subst (λ (d : Option Deeds). IsNext s.story.tree s.mine.call d (AddFile l.directory l.name x.file)) (sym h.fresh.deeds) ([], (Made x.file, free_says x l s sound h));
   fits = (root_in_tree s l.directory sound h.fresh.place.root, node_is s (entry_at l) None sound h.empty, file_free x l s sound h);
-  own = (x.holder.0, let w = holder_there x.holder.0 s sound h.makes.holder in let few = sound.kept.few in omega arith, h.makes.file);
+  own = (x.holder.0, let w = h.makes.there in let few = sound.kept.few in omega arith, h.makes.file);
 }
 
 pub create_permitted : (m : CreateCall) (s : Scene) → Sound s → CreateKnows m s → Permitted s (create_asks m)
-create_permitted (Securing x m) s sound h = section_permitted m s sound h.section
-create_permitted (Creating x l) s sound h = record { there = holder_there x.holder.0 s sound h.makes.holder; may = (h.locked.name, wants_file x l s sound h) }
+create_permitted (Securing o m) s sound h = section_permitted m s sound h.section
+create_permitted (Creating x l) s sound h = record { there = h.makes.there; may = (h.locked.name, h.holds, wants_file x l s sound h) }
 create_permitted (Ending c) s sound h = closing_permitted c s sound h
+
+comes_stable : (x : Origin) (l : Location) (s t : Scene) → ComesOf x l s → Others s t → ComesOf x l t
+comes_stable x l s t h o = record {
+  call = ap (λ (r : Running). r.call) o.mine ∙ h.call;
+  run = h.run ∙ sym o.run;
+  client = h.client ∙ sym o.who;
+  number = h.number ∙ ap (λ (r : Running). r.number) (sym o.mine);
+  small = h.small;
+}
 
 makes_stable : (x : NewFile) (l : Location) (s t : Scene) → Makes x l s → Others s t → Makes x l t
 makes_stable x l s t h o = record {
   call = ap (λ (r : Running). r.call) o.mine ∙ h.call;
-  holder = h.holder ∙ ap holder_of (sym o.weights);
+  there = let w = h.there in let c = o.count in omega arith;
   file = h.file ∙ (ap (λ (n : ℕ). made n s.who s.mine.number x.holder.0) (sym o.run) ∙ (ap (λ (c : ClientNo). made t.story.run c s.mine.number x.holder.0) (sym o.who) ∙ ap (λ (r : Running). made t.story.run t.who r.number x.holder.0) (sym o.mine)));
   numbered = h.numbered ∙ ap (λ (r : Running). r.number.0) (sym o.mine);
 }
@@ -63,9 +74,10 @@ free_stable x l s t h o = record {
   fresh = fresh_stable l s t h.fresh o;
   locked = locked_stable l s t h.locked o;
   empty = λ b k. o.slots l.directory l.name h.locked.name b ∙ h.empty b (let c = o.count in omega arith);
+  holds = ap (λ ranges. holder ranges (dm l.name)) (layout_stable s t l.directory o) ∙ h.holds;
 }
 
 pub create_stable : (m : CreateCall) (s t : Scene) → CreateKnows m s → Others s t → CreateKnows m t
-create_stable (Securing x m) s t h o = record { makes = makes_stable x _ s t h.makes o; section = section_stable m s t h.section o }
+create_stable (Securing x m) s t h o = record { comes = comes_stable x _ s t h.comes o; section = section_stable m s t h.section o }
 create_stable (Creating x l) s t h o = free_stable x l s t h o
 create_stable (Ending c) s t h o = closing_stable c s t h o

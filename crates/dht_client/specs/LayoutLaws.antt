@@ -1,12 +1,28 @@
--- The holder is a brick of the volume.
-use Rattle.std.proofs.Common.{◌≡◌, ◌<◌, ℕ, List, length, refl}
-use Rattle.std.specs.Prelude.{Option, Some, None, nat_lt, unwrap_or, position}
-use Rattle.std.proofs.lemmas.List.Quantifiers.{position-Some}
-use Rattle.dht_client.specs.Layout.{holder_of}
+-- Each name has a holder.
+use Rattle.std.proofs.Common.{◌≡◌, ◌<◌, ℕ, List, length, sym, ◌∙◌, ap, arith}
+use Rattle.std.specs.Prelude.{Some}
+use Rattle.dht_types.specs.Gfid.{Entry, root}
+use Rattle.dht_types.specs.declared.identifiers.Gfid.{Gfid}
+use Rattle.dht_hash.specs.DaviesMeyer.{dm}
+use Rattle.dht_hash.specs.DaviesMeyerLaws.{dm_below}
+use Rattle.dht_xattr.specs.Layout.{holder}
+use Rattle.dht_xattr.specs.Plan.{planned}
+use Rattle.dht_xattr.specs.PlanLaws.{planned_holder}
+use Rattle.dht_section.specs.Scene.{Scene, Sound, layout_of, holder_of}
 
-found_within : (ws : List ℕ) (o : Option ℕ) → position (λ w. nat_lt 0 w) ws ≡ o → 0 < length ws → unwrap_or o 0 < length ws
-found_within ws None e h = h
-found_within ws (Some i) e h = (position-Some (λ w. nat_lt 0 w) ws i 0 e).0
+-- a name of the root has a holder, which is a brick of the volume
+pub record HasHolder (s : Scene) (e : Entry) : Type 0 where
+  pub brick : ℕ
+  pub there : brick < s.disk.count
+  pub holds : holder_of s.disk e ≡ Some brick
 
-pub holder_within : (ws : List ℕ) → 0 < length ws → holder_of ws < length ws
-holder_within ws h = found_within ws (position (λ w. nat_lt 0 w) ws) refl h
+pub has_holder : (s : Scene) (d : Gfid) (n : List ℕ) → Sound s → d ≡ root → HasHolder s (d, n)
+has_holder s d n sound e =
+    let w = planned_holder s.story.weights root (dm n) sound.kept.heavy (dm_below n) in
+    let counted = sound.kept.counted in
+    let l = w.1 in
+    record {
+      brick = w.0;
+      there = omega arith;
+      holds = ap (λ g. holder (layout_of s.disk g) (dm n)) e ∙ (ap (λ ranges. holder ranges (dm n)) sound.kept.planned ∙ w.2);
+    }

@@ -1,5 +1,5 @@
 -- What a lookup asks and knows.
-use Rattle.std.specs.Prelude.{ℕ, ◌+◌, ◌-◌, ◌<◌, ◌≡◌, nat_le, Bool, true, false, if◌then◌else◌, Option, Some, None, List, []}
+use Rattle.std.specs.Prelude.{ℕ, ◌+◌, ◌-◌, ◌<◌, ◌≡◌, ◌&&◌, not, nat_le, nat_lt, Bool, false, if◌then◌else◌, Option, Some, None, List, []}
 use Rattle.dht_types.specs.declared.identifiers.BrickNo.{BrickNo}
 use Rattle.dht_types.specs.declared.errors.Errno.TheVariants.{Enoent}
 use Rattle.dht_types.specs.declared.calls.Call.TheVariants.{Lookup}
@@ -8,14 +8,18 @@ use Rattle.dht_types.specs.declared.calls.Answer.TheVariants.{File, Fault}
 use Rattle.dht_types.specs.declared.locks.Key.{Key}
 use Rattle.dht_brick.specs.declared.requests.NameRequest.TheVariants.{Look, Dirinfo}
 use Rattle.dht_brick.specs.declared.requests.Request.TheVariants.{OnNames}
+use Rattle.dht_brick.specs.declared.requests.Reply.{Reply}
 use Rattle.dht_brick.specs.declared.machines.Ask.{Ask}
+use Rattle.dht_xattr.specs.declared.range.Range.{Range}
+use Rattle.dht_section.specs.Replies.{is_no_memory, range_shown}
 use Rattle.dht_section.specs.Scene.{Scene}
-use Rattle.dht_section.specs.Section.{IsFresh, section_asks, section_location, section_left, section_locks, is_last_look, SectionKnows}
+use Rattle.dht_section.specs.Section.{IsFresh, lengthened, section_asks, section_location, section_left, section_locks, section_taught, SectionKnows}
 use Rattle.dht_section.specs.Closing.{closing_asks, closing_left, closing_locks, closing_finish, ClosingKnows}
 use Rattle.dht_section.specs.declared.section.Location.{Location}
 use Rattle.dht_section.specs.declared.section.Place.{Place}
 use Rattle.dht_section.specs.declared.section.Section.{Section}
-use Rattle.dht_client.specs.Layout.{holder_of}
+use Rattle.dht_section.specs.declared.section.Section.TheVariants.{LockingDirectory}
+use Rattle.dht_client.specs.Layout.{holder_in}
 use Rattle.dht_client.specs.Memory.{is_enomem}
 use Rattle.dht_client.specs.declared.lookup.Sought.{Sought}
 use Rattle.dht_client.specs.declared.lookup.LookupCall.{LookupCall}
@@ -27,47 +31,55 @@ found_answer None = Fault Enoent
 found_answer (Some p) = File p.file
 
 abbrev pub lookup_asks : LookupCall → Ask
-lookup_asks (Surveying x b) = record { brick = b; request = OnNames (Dirinfo x.location.directory) }
+lookup_asks (Surveying l b ranges) = record { brick = b; request = OnNames (Dirinfo l.directory) }
 lookup_asks (LookingAtHolder x) = record { brick = x.holder; request = OnNames (Look x.location.directory x.location.name) }
 lookup_asks (Securing m) = section_asks m
 lookup_asks (Ending c) = closing_asks c
 
 -- how many requests it still sends at most
 abbrev pub lookup_left : LookupCall → ℕ
-lookup_left (Surveying x b) = (x.location.bricks - b.0) + x.location.bricks + 5
+lookup_left (Surveying l b ranges) = (l.bricks - b.0) + l.bricks + 5
 lookup_left (LookingAtHolder x) = x.location.bricks + 5
 lookup_left (Securing m) = section_left m + 2
 lookup_left (Ending c) = closing_left c
 
--- it asks for the last of what every brick is asked for
-abbrev pub lookup_is_last : LookupCall → Bool
-lookup_is_last (Surveying x b) = nat_le (x.location.bricks - b.0) 1
-lookup_is_last (LookingAtHolder x) = false
-lookup_is_last (Securing m) = is_last_look m
-lookup_is_last (Ending c) = false
+-- the layout of the directory, where every brick has shown its range by this reply
+abbrev pub lookup_taught : LookupCall → Reply → Option (List (Option Range))
+lookup_taught (Surveying l b ranges) r = if nat_le (l.bricks - b.0) 1 && not (is_no_memory r) then Some (lengthened ranges (range_shown r)) else None
+lookup_taught (LookingAtHolder x) r = None
+lookup_taught (Securing m) r = section_taught m r
+lookup_taught (Ending c) r = None
 
 -- the locks that were asked for and not given back, the last first
 abbrev pub lookup_locks : LookupCall → List Key
-lookup_locks (Surveying x b) = []
+lookup_locks (Surveying l b ranges) = []
 lookup_locks (LookingAtHolder x) = []
 lookup_locks (Securing m) = section_locks m
 lookup_locks (Ending c) = closing_locks c
 
 -- it was stopped by want of memory
 abbrev pub lookup_starved : LookupCall → Bool
-lookup_starved (Surveying x b) = false
+lookup_starved (Surveying l b ranges) = false
 lookup_starved (LookingAtHolder x) = false
 lookup_starved (Securing m) = false
 lookup_starved (Ending c) = is_enomem (closing_finish c).answer
 
--- a lookup by a client that knows the layout or does not
-abbrev pub first_lookup : Sought → Bool → LookupCall
-first_lookup x true = LookingAtHolder x
-first_lookup x false = Surveying x (record { 0 = 0 })
+-- a lookup that knows the layout: it looks at the holder, if a brick of the volume is one, and else at all bricks
+abbrev pub aimed_at : Location → Option ℕ → LookupCall
+aimed_at l None = Securing (LockingDirectory l)
+aimed_at l (Some b) = if nat_lt b l.bricks then LookingAtHolder (record { location = l; holder = record { 0 = b } }) else Securing (LockingDirectory l)
 
--- after a brick gave the directory's record, the next is asked, or all have given it
-abbrev pub surveyed : Sought → BrickNo → LookupCall
-surveyed x b = if nat_le (x.location.bricks - b.0) 1 then LookingAtHolder x else Surveying x (record { 0 = b.0 + 1 })
+abbrev pub aimed : Location → List (Option Range) → LookupCall
+aimed l ranges = aimed_at l (holder_in ranges l.name)
+
+-- a lookup by a client that knows this layout or none
+abbrev pub first_lookup : Location → Option (List (Option Range)) → LookupCall
+first_lookup l None = Surveying l (record { 0 = 0 }) []
+first_lookup l (Some ranges) = aimed l ranges
+
+-- after a brick gave the directory's record, with the ranges so far: the next is asked, or all have given it
+abbrev pub surveyed : Location → BrickNo → List (Option Range) → LookupCall
+surveyed l b ranges = if nat_le (l.bricks - b.0) 1 then aimed l ranges else Surveying l (record { 0 = b.0 + 1 }) ranges
 
 -- the call is of this name
 abbrev pub IsLookup : Location → Scene → Type 0
@@ -75,19 +87,20 @@ IsLookup l s = s.mine.call ≡ Lookup l.directory l.name
 
 pub record Seeks (x : Sought) (s : Scene) : Type 0 where
   pub call : IsLookup x.location s
-  pub holder : x.holder.0 ≡ holder_of s.story.weights
+  pub within : x.holder.0 < x.location.bricks
   pub fresh : IsFresh x.location s
 
-pub record Surveys (x : Sought) (b : BrickNo) (s : Scene) : Type 0 where
-  pub seeks : Seeks x s
-  pub within : 0 < x.location.bricks → b.0 < x.location.bricks
+pub record Surveys (l : Location) (b : BrickNo) (s : Scene) : Type 0 where
+  pub call : IsLookup l s
+  pub fresh : IsFresh l s
+  pub within : 0 < l.bricks → b.0 < l.bricks
 
 pub record SecuresLookup (m : Section) (s : Scene) : Type 0 where
   pub call : IsLookup (section_location m) s
   pub section : SectionKnows m s
 
 abbrev pub LookupKnows : LookupCall → Scene → Type 0
-LookupKnows (Surveying x b) s = Surveys x b s
+LookupKnows (Surveying l b ranges) s = Surveys l b s
 LookupKnows (LookingAtHolder x) s = Seeks x s
 LookupKnows (Securing m) s = SecuresLookup m s
 LookupKnows (Ending c) s = ClosingKnows c s

@@ -1,12 +1,12 @@
 -- What a program asks and knows: what its call does. These do not unfold by themselves, so that no proof above looks into a call.
-use Rattle.std.specs.Prelude.{ℕ, Bool, not, ◌&&◌, List}
+use Rattle.std.specs.Prelude.{ℕ, Bool, Option, List}
 use Rattle.dht_types.specs.declared.locks.Key.{Key}
 use Rattle.dht_brick.specs.declared.requests.Reply.{Reply}
 use Rattle.dht_brick.specs.declared.machines.Ask.{Ask}
-use Rattle.dht_section.specs.Replies.{is_no_memory}
+use Rattle.dht_xattr.specs.declared.range.Range.{Range}
 use Rattle.dht_section.specs.Scene.{Scene}
-use Rattle.dht_client.specs.Lookup.{lookup_asks, lookup_left, lookup_is_last, lookup_locks, lookup_starved, LookupKnows}
-use Rattle.dht_client.specs.Create.{create_asks, create_left, create_is_last, create_locks, create_starved, CreateKnows}
+use Rattle.dht_client.specs.Lookup.{lookup_asks, lookup_left, lookup_taught, lookup_locks, lookup_starved, LookupKnows}
+use Rattle.dht_client.specs.Create.{create_asks, create_left, create_taught, create_locks, create_starved, CreateKnows}
 use Rattle.dht_client.specs.declared.program.Program.{Program}
 use Rattle.dht_client.specs.declared.program.Program.TheVariants.{LookingUp, Creating}
 
@@ -26,13 +26,10 @@ unfoldable pub program_starved : Program → Bool
 program_starved (LookingUp m) = lookup_starved m
 program_starved (Creating m) = create_starved m
 
-abbrev pub is_last : Program → Bool
-is_last (LookingUp m) = lookup_is_last m
-is_last (Creating m) = create_is_last m
-
--- the reply is the last of those by which every brick has shown its part of the layout
-unfoldable pub teaches : Program → Reply → Bool
-teaches m r = not (is_no_memory r) && is_last m
+-- the layout of the directory, where every brick has shown its range by this reply
+unfoldable pub program_taught : Program → Reply → Option (List (Option Range))
+program_taught (LookingUp m) r = lookup_taught m r
+program_taught (Creating m) r = create_taught m r
 
 unfoldable pub ProgramKnows : Program → Scene → Type 0
 ProgramKnows (LookingUp m) s = LookupKnows m s

@@ -28,7 +28,7 @@ closing_goes_on (UnlockingDirectory l f) = omega arith
 
 pub program_goes_on : (m : Program) → 0 < program_left m
 unfolding program_left
-program_goes_on (LookingUp (Surveying x b)) = omega arith
+program_goes_on (LookingUp (Surveying l b ranges)) = omega arith
 program_goes_on (LookingUp (LookingAtHolder x)) = omega arith
 program_goes_on (LookingUp (Securing m)) = omega arith
 program_goes_on (LookingUp (Ending c)) = closing_goes_on c

@@ -1,17 +1,18 @@
 //! A client: the program of its running call, if there is one, and what it has learned.
 
-ghost use Rattle.std.specs.Prelude.{◌≡◌, ◌<◌, ◌≤◌, ◌^◌, ◌||◌, ℕ, Bool, true, false, not, is_none, [], None, length, MatchOption};
+ghost use Rattle.std.specs.Prelude.{◌≡◌, ◌<◌, ◌≤◌, ◌^◌, ◌||◌, ℕ, Bool, true, false, not, is_none, is_some, [], None, length, MatchOption};
 ghost use Rattle.dht_types.specs.Cost.{cost};
 ghost use Rattle.dht_section.specs.Scene.{Scene, Sound, Moved, Earned};
 ghost use Rattle.dht_section.specs.Begins.{Begins, IsInRoot};
 ghost use Rattle.dht_section.specs.Section.{LocksBy};
 ghost use Rattle.dht_client.specs.Memory.{is_enomem, starves};
-ghost use Rattle.dht_client.specs.Client.{client_asks, client_is_busy, client_left, client_locks, client_number, client_starved, knows_layout, client_teaches, first_ask, first_program, most_steps, ClientKnows};
+ghost use Rattle.dht_client.specs.Client.{client_asks, client_is_busy, client_left, client_locks, client_number, client_starved, client_layout, client_taught, first_ask, first_program, most_steps, ClientKnows};
+ghost use Rattle.dht_client.specs.Layout.{learned};
 ghost use Rattle.dht_client.specs.ClientLaws.{client_goes_on, client_permitted, client_stable};
 
-use super::create::{CreateCall, NewFile};
-use super::layout::holder_of;
-use super::lookup::{LookupCall, Sought};
+use super::create::{CreateCall, Origin};
+use super::layout::learn;
+use super::lookup::LookupCall;
 use super::program::Program;
 use dht_brick::machines::{Ask, Finish, Turn};
 use dht_brick::requests::Reply;
@@ -21,13 +22,15 @@ use dht_section::section::Location;
 use dht_types::calls::Call;
 use dht_types::identifiers::{CallNo, ClientNo, Gfid};
 use dht_types::volumes::Weights;
+use dht_xattr::layout::Layout;
 
 /// A client of the volume. It carries out one call at a time, and looks a name up at its holder
 /// alone once it knows the layout.
 #[derive(Debug, Drop)]
 pub struct Client {
     number: ClientNo,
-    knows_layout: bool,
+    /// The layout of the root, the one directory, once the client has read it.
+    layout: Option<Layout>,
     running: Option<Program>,
 }
 
@@ -36,11 +39,11 @@ impl Client {
     pub fn new(number: ClientNo) -> Client
         ensures number { client_number result ≡ number }
         ensures idle { client_is_busy result ≡ false }
-        ensures layout { knows_layout result ≡ false }
+        ensures layout { client_layout result ≡ None }
     {
         Client {
             number,
-            knows_layout: false,
+            layout: None,
             running: None,
         }
     }
@@ -51,7 +54,6 @@ impl Client {
         ensures program { result ≡ first_program self.now weights.now run call what.now }
         ensures small { call.0 < 2 ^ 64 }
     {
-        let holder = holder_of(weights);
         let bricks = weights.as_slice().len() as u16;
         match *what {
             Call::Lookup(directory, name) => {
@@ -60,7 +62,7 @@ impl Client {
                     name,
                     bricks,
                 };
-                Program::LookingUp(LookupCall::new(Sought { location, holder }, self.knows_layout))
+                Program::LookingUp(LookupCall::new(location, &self.layout))
             }
             Call::Create(directory, name) => {
                 let location = Location {
@@ -68,8 +70,12 @@ impl Client {
                     name,
                     bricks,
                 };
-                let file = Gfid::made(run, self.number, call, holder);
-                Program::Creating(CreateCall::new(location, NewFile { file, holder }))
+                let origin = Origin {
+                    run,
+                    client: self.number,
+                    call,
+                };
+                Program::Creating(CreateCall::new(location, origin))
             }
         }
     }
@@ -99,9 +105,9 @@ impl Caller for Client {
         ensures knows { (s : Scene) → Begins (client_number self.old) weights.now run call what.now s → ClientKnows self.new s }
         ensures left { client_left self.new ≤ cost (length weights.now) what.now }
         // a client that knows the layout looks at the holder first
-        ensures asks { client_asks self.new ≡ first_ask (knows_layout self.old) weights.now what.now }
-        ensures steps { client_left self.new ≡ most_steps (knows_layout self.old) (length weights.now) what.now }
-        ensures layout { knows_layout self.new ≡ knows_layout self.old }
+        ensures asks { client_asks self.new ≡ first_ask (client_layout self.old) weights.now what.now }
+        ensures steps { client_left self.new ≤ most_steps (is_some (client_layout self.old)) (length weights.now) what.now }
+        ensures layout { client_layout self.new ≡ client_layout self.old }
         ensures locks { client_locks self.new ≡ [] }
         ensures memory { client_starved self.new ≡ false }
     {
@@ -121,7 +127,8 @@ impl Caller for Client {
         ensures moves { (s t : Scene) → Sound s → Sound t → ClientKnows self.old s → Moved s (client_asks self.old) reply t → at ≡ t.story.size
             → MatchOption result ((client_is_busy self.new ≡ true) × ClientKnows self.new t × (client_left self.new < client_left self.old)) (λ f. (client_is_busy self.new ≡ false) × Earned f t) }
         ensures busy { client_is_busy self.new ≡ is_none result }
-        ensures layout { knows_layout self.new ≡ (knows_layout self.old || client_teaches self.old reply) }
+        // it learns the layout of the root when every brick has shown its range
+        ensures layout { client_layout self.new ≡ learned (client_layout self.old) (client_taught self.old reply) }
         // a call that answers has given back each lock that it asked for
         ensures locks { LocksBy (client_asks self.old).request (client_locks self.old) (client_locks self.new) }
         // a call answers Enomem exactly where a brick had no memory for a request of it
@@ -129,7 +136,7 @@ impl Caller for Client {
     {
         match self.running.take() {
             Some(program) => {
-                self.knows_layout = self.knows_layout || program.teaches(&reply);
+                self.layout = learn(self.layout, program.taught(&reply));
                 match program.take(reply, at) {
                     Turn::Go(program) => {
                         self.running = Some(program);
@@ -156,18 +163,29 @@ mod tests {
     use dht_types::calls::Answer;
     use dht_types::errors::Errno;
     use dht_types::identifiers::BrickNo;
-    use dht_types::lines::RequestKind;
+    use dht_types::lines::{LayoutValue, RequestKind};
     use dht_types::names::Name;
     use std::alloc::{AllocError, Global};
     use std::test::Fail;
 
+    /// The range of all hashes.
+    const WHOLE: LayoutValue = LayoutValue([
+        0, 0, 0, 0, 0, 0, 0, 0, 0, 0, 0, 0, 255, 255, 255, 255,
+    ]);
+
+    /// The brick that has the whole range in these tests.
+    const HOLDER: BrickNo = BrickNo(1);
+
     /// What a brick replies that has this at every name.
-    fn reply_of(request: &Request, slot: Option<Main>) -> Reply {
-        match request {
-            Request::OnNames(NameRequest::Look(_, _)) => Reply::Ok(Given::Slot(slot)),
-            Request::OnNames(NameRequest::Dirinfo(_)) => {
-                Reply::Ok(Given::Dir(DirRecord { value: None }))
-            }
+    fn reply_of(ask: &Ask, slot: Option<Main>) -> Reply {
+        let value = if ask.brick == HOLDER {
+            Some(WHOLE)
+        } else {
+            None
+        };
+        match ask.request {
+            Request::OnNames(NameRequest::Look(_, _)) => Reply::Ok(Given::Slot(slot, value)),
+            Request::OnNames(NameRequest::Dirinfo(_)) => Reply::Ok(Given::Dir(DirRecord { value })),
             _ => Reply::Ok(Given::Nothing),
         }
     }
@@ -185,12 +203,12 @@ mod tests {
             if client.is_idle() {
                 break;
             }
-            let request = client.next().request;
-            kinds.push(request.kind())?;
+            let ask = client.next();
+            kinds.push(ask.request.kind())?;
             let reply = if step == fails {
                 Reply::NoMemory
             } else {
-                reply_of(&request, slot)
+                reply_of(&ask, slot)
             };
             answer = client.take(reply, step).map(|finish| finish.answer);
         }
@@ -243,17 +261,19 @@ mod tests {
 
     #[test]
     fn looks_everywhere(rt: HostRuntime) -> Result<(), Fail> {
-        let weights = Weights::new([1u16].to_vec(rt.alloc())?);
-        assert_eq!(rt; weights.as_slice().len(), 1);
+        let weights = Weights::new([0u16, 1].to_vec(rt.alloc())?);
+        assert_eq!(rt; weights.as_slice().len(), 2);
         let mut client = Client::new(ClientNo(0));
         let name = Name::of(b"a");
         client.start(&weights, 1, CallNo(1), &Call::Lookup(Gfid::ROOT, name));
         let (kinds, answer) = run(rt.alloc(), &mut client, None, 0)?;
         let expected = [
             RequestKind::Dirinfo,
+            RequestKind::Dirinfo,
             RequestKind::Look,
             RequestKind::Lock,
             RequestKind::Lock,
+            RequestKind::Look,
             RequestKind::Look,
             RequestKind::Unlock,
             RequestKind::Unlock,

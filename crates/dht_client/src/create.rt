@@ -1,12 +1,12 @@
 //! Create: under the locks of its name, a call that makes a file where no brick has one.
 
-ghost use Rattle.std.specs.Prelude.{◌≡◌, ◌<◌, ◌≤◌, ◌||◌, ℕ, false, [], None};
+ghost use Rattle.std.specs.Prelude.{◌≡◌, ◌<◌, ◌≤◌, ◌||◌, ℕ, false, [], None, option_map, unwrap_or};
 ghost use Rattle.dht_section.specs.Scene.{Scene, Sound, Moved, Earned};
 ghost use Rattle.dht_section.specs.Turns.{MatchTurn};
 ghost use Rattle.dht_section.specs.Section.{LocksBy, OutcomeFact, outcome_location, outcome_locks, is_stopped};
 ghost use Rattle.dht_section.specs.Closing.{ClosingKnows, closing_finish, closing_locks};
 ghost use Rattle.dht_client.specs.Memory.{is_enomem, starves};
-ghost use Rattle.dht_client.specs.Create.{Makes, create_asks, create_is_last, create_left, create_locks, create_starved, first_create, CreateKnows};
+ghost use Rattle.dht_client.specs.Create.{ComesOf, create_asks, create_left, create_locks, create_starved, create_taught, first_create, new_file, CreateKnows};
 ghost use Rattle.dht_client.specs.CreateLaws.{create_permitted, create_stable};
 
 use dht_brick::machines::{Ask, Finish, Turn};
@@ -17,7 +17,16 @@ use dht_section::replies::is_no_memory;
 use dht_section::section::{Location, Outcome, Section};
 use dht_types::calls::Answer;
 use dht_types::errors::Errno;
-use dht_types::identifiers::{BrickNo, Gfid};
+use dht_types::identifiers::{BrickNo, CallNo, ClientNo, Gfid};
+use dht_xattr::layout::Layout;
+
+/// Where a gfid comes from: the call that makes it, of which client and in which run.
+#[derive(Clone, Copy, Debug)]
+pub struct Origin {
+    pub run: u32,
+    pub client: ClientNo,
+    pub call: CallNo,
+}
 
 /// The file that a create makes, and the brick to which it goes.
 #[derive(Clone, Copy, Debug)]
@@ -30,16 +39,31 @@ pub struct NewFile {
 #[derive(Debug, Drop)]
 pub enum CreateCall {
     /// Nothing is known of the name.
-    Securing(NewFile, Section),
-    /// Both locks are held, and no brick has the name.
+    Securing(Origin, Section),
+    /// Both locks are held, no brick has the name, and the layout is known: the file goes to the
+    /// name's holder.
     Creating(NewFile, Location),
     /// The answer is known.
     Ending(Closing),
 }
 
+impl Origin {
+    /// The file that its call makes on a brick. The layout of a directory leaves out no hash, so
+    /// there is a holder; brick 0 would stand for it.
+    fn new_file(&self, holder: Option<BrickNo>) -> NewFile
+        ensures { result ≡ new_file self.now (unwrap_or (option_map (λ b. b.0) holder) 0) }
+    {
+        let holder = holder.unwrap_or(BrickNo(0));
+        NewFile {
+            file: Gfid::made(self.run, self.client, self.call, holder),
+            holder,
+        }
+    }
+}
+
 /// How a create goes on after its section.
-fn secured(new: NewFile, outcome: Outcome) -> CreateCall
-    ensures knows { (s : Scene) → Makes new (outcome_location outcome) s → OutcomeFact outcome s → CreateKnows result s }
+fn secured(origin: Origin, outcome: Outcome) -> CreateCall
+    ensures knows { (s : Scene) → Sound s → ComesOf origin (outcome_location outcome) s → OutcomeFact outcome s → CreateKnows result s }
     ensures left { create_left result ≤ 3 }
     ensures locks { create_locks result ≡ outcome_locks outcome }
     ensures memory { create_starved result ≡ is_stopped outcome }
@@ -53,28 +77,28 @@ fn secured(new: NewFile, outcome: Outcome) -> CreateCall
                     at: Some(held.at),
                 },
             )),
-            None => CreateCall::Creating(new, held.location),
+            None => CreateCall::Creating(origin.new_file(held.holder()), held.location),
         },
         Outcome::Stopped(stopped) => CreateCall::Ending(Closing::of_stopped(stopped)),
     }
 }
 
 impl CreateCall {
-    /// The create of a file at a name.
-    pub fn new(location: Location, new: NewFile) -> CreateCall
-        ensures { result ≡ first_create location new }
+    /// The create of a file at a name, by the call of this origin.
+    pub fn new(location: Location, origin: Origin) -> CreateCall
+        ensures { result ≡ first_create location origin }
     {
-        CreateCall::Securing(new, Section::new(location))
+        CreateCall::Securing(origin, Section::new(location))
     }
 
-    /// Whether it asks for the last of what every brick is asked for.
-    pub fn is_last(&self) -> bool
-        ensures { result ≡ create_is_last self.now }
+    /// The layout of the directory, where every brick has shown its range by this reply.
+    pub fn taught(&self, reply: &Reply) -> Option<Layout>
+        ensures { result ≡ create_taught self.now reply.now }
     {
         match self {
-            CreateCall::Securing(_, section) => section.is_last_look(),
-            CreateCall::Creating(_, _) => false,
-            CreateCall::Ending(_) => false,
+            CreateCall::Securing(_, section) => section.taught(reply),
+            CreateCall::Creating(_, _) => None,
+            CreateCall::Ending(_) => None,
         }
     }
 }
@@ -113,9 +137,9 @@ impl Machine for CreateCall {
         ensures memory { MatchTurn result (λ m. create_starved m ≡ (create_starved self || starves (create_asks self).request reply)) (λ d. is_enomem d.answer ≡ (create_starved self || starves (create_asks self).request reply)) }
     {
         match self {
-            CreateCall::Securing(new, section) => match section.take(reply, at) {
-                Turn::Go(section) => Turn::Go(CreateCall::Securing(new, section)),
-                Turn::Done(outcome) => Turn::Go(secured(new, outcome)),
+            CreateCall::Securing(origin, section) => match section.take(reply, at) {
+                Turn::Go(section) => Turn::Go(CreateCall::Securing(origin, section)),
+                Turn::Done(outcome) => Turn::Go(secured(origin, outcome)),
             },
             CreateCall::Creating(new, location) => {
                 if is_no_memory(&reply) {

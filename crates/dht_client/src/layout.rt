@@ -1,25 +1,27 @@
-//! Which brick a name belongs to.
+//! Which brick a name belongs to, by a layout.
 
-ghost use Rattle.std.specs.Prelude.{◌≡◌, ◌≤◌, nat_lt, length, position};
-ghost use Rattle.dht_client.specs.Layout.{holder_of};
+ghost use Rattle.std.specs.Prelude.{◌≡◌, option_map};
+ghost use Rattle.dht_client.specs.Layout.{holder_in, learned};
 
+use dht_hash::dm_hash;
 use dht_types::identifiers::BrickNo;
-use dht_types::volumes::Weights;
+use dht_types::names::Name;
+use dht_xattr::layout::{Layout, holder};
 
-/// The number of the first brick with weight.
-fn first_with_weight(weights: &Weights) -> Option<usize>
-    ensures { result ≡ position (λ w. nat_lt 0 w) weights.now }
+/// The holder of a name: the first brick whose range contains the hash of the name. None where the
+/// layout has a hole there.
+pub fn holder_in(layout: &Layout, name: &Name) -> Option<BrickNo>
+    ensures { option_map (λ b. b.0) result ≡ holder_in layout.now name.now }
 {
-    weights.as_slice().iter().position(|weight| *weight > 0)
+    holder(layout, dm_hash(name.as_bytes()))
 }
 
-/// The holder of every name: the first brick with weight, or brick 0 where none has any.
-pub fn holder_of(weights: &Weights) -> BrickNo
-    requires { length weights.now ≤ 32 }
-    ensures { result.0 ≡ holder_of weights.now }
+/// The layout that is known after a reply: the one that the reply taught, or the one known before.
+pub fn learn(known: Option<Layout>, taught: Option<Layout>) -> Option<Layout>
+    ensures { result ≡ learned known taught }
 {
-    match first_with_weight(weights) {
-        Some(brick) => BrickNo(brick as u16),
-        None => BrickNo(0),
+    match taught {
+        Some(layout) => Some(layout),
+        None => known,
     }
 }

@@ -8,20 +8,23 @@ ghost use Rattle.dht_section.specs.Turns.{MatchTurn};
 ghost use Rattle.dht_section.specs.Section.{LocksBy, OutcomeFact, outcome_location, outcome_locks, is_stopped};
 ghost use Rattle.dht_section.specs.Closing.{ClosingKnows, closing_finish, closing_locks};
 ghost use Rattle.dht_client.specs.Memory.{is_enomem, starves};
-ghost use Rattle.dht_client.specs.Lookup.{IsLookup, Seeks, first_lookup, found_answer, lookup_asks, lookup_is_last, lookup_left, lookup_locks, lookup_starved, surveyed, LookupKnows};
+ghost use Rattle.dht_section.specs.Section.{HasPlace};
+ghost use Rattle.dht_client.specs.Lookup.{IsLookup, Seeks, aimed, first_lookup, found_answer, lookup_asks, lookup_left, lookup_locks, lookup_starved, lookup_taught, surveyed, LookupKnows};
 ghost use Rattle.dht_client.specs.LookupLaws.{lookup_permitted, lookup_stable};
 
+use super::layout::holder_in;
 use dht_brick::machines::{Ask, Finish, Turn};
 use dht_brick::requests::{Main, NameRequest, Reply, Request};
 use dht_section::closing::{Closing, want_of_memory};
 use dht_section::machine::Machine;
-use dht_section::replies::{is_no_memory, main_shown};
-use dht_section::section::{Location, Outcome, Place, Section};
+use dht_section::replies::{is_no_memory, main_shown, range_shown};
+use dht_section::section::{Location, Outcome, Place, Section, lengthen};
 use dht_types::calls::Answer;
 use dht_types::errors::Errno;
 use dht_types::identifiers::BrickNo;
+use dht_xattr::layout::Layout;
 
-/// The name that is looked up, and the brick that it belongs to.
+/// The name that is looked up, and its holder.
 #[derive(Clone, Copy, Debug)]
 pub struct Sought {
     pub location: Location,
@@ -31,11 +34,12 @@ pub struct Sought {
 /// A lookup. Each stage is one request, or those of a part that is a program of its own.
 #[derive(Debug, Drop)]
 pub enum LookupCall {
-    /// The layout is not known: the directory's record is asked of every brick, of this one next.
-    Surveying(Sought, BrickNo),
-    /// The layout is known.
+    /// The layout is not known: the directory's record is asked of every brick, of this one next. The
+    /// bricks below it have these ranges.
+    Surveying(Location, BrickNo, Layout),
+    /// The layout is known, and the name has a holder.
     LookingAtHolder(Sought),
-    /// The name was not at its holder.
+    /// The name is not at its holder, or has none.
     Securing(Section),
     /// The answer is known.
     Ending(Closing),
@@ -69,41 +73,57 @@ fn end(outcome: Outcome) -> Closing
     }
 }
 
+/// The lookup of a name by this layout: at its holder, if a brick of the volume is one.
+fn aim(location: Location, layout: &Layout) -> LookupCall
+    ensures { result ≡ aimed location layout.now }
+{
+    match holder_in(layout, &location.name) {
+        Some(holder) if holder.0 < location.bricks => {
+            LookupCall::LookingAtHolder(Sought { location, holder })
+        }
+        _ => LookupCall::Securing(Section::new(location)),
+    }
+}
+
 impl LookupCall {
-    /// The lookup of a name, by a client that knows the layout or does not.
-    pub fn new(sought: Sought, knows_layout: bool) -> LookupCall
-        ensures { result ≡ first_lookup sought knows_layout }
+    /// The lookup of a name, by a client that knows this layout or none.
+    pub fn new(location: Location, known: &Option<Layout>) -> LookupCall
+        ensures { result ≡ first_lookup location known.now }
     {
-        if knows_layout {
-            LookupCall::LookingAtHolder(sought)
-        } else {
-            LookupCall::Surveying(sought, BrickNo(0))
+        match known {
+            Some(layout) => aim(location, layout),
+            None => LookupCall::Surveying(location, BrickNo(0), Layout::empty()),
         }
     }
 
-    /// Whether it asks for the last of what every brick is asked for.
-    pub fn is_last(&self) -> bool
-        ensures { result ≡ lookup_is_last self.now }
+    /// The layout of the directory, where every brick has shown its range by this reply.
+    pub fn taught(&self, reply: &Reply) -> Option<Layout>
+        ensures { result ≡ lookup_taught self.now reply.now }
     {
         match self {
-            LookupCall::Surveying(sought, brick) => {
-                sought.location.bricks.saturating_sub(brick.0) <= 1
+            LookupCall::Surveying(location, brick, layout) => {
+                let is_last = location.bricks.saturating_sub(brick.0) <= 1;
+                if is_last && !is_no_memory(reply) {
+                    Some(lengthen(*layout, range_shown(reply)))
+                } else {
+                    None
+                }
             }
-            LookupCall::LookingAtHolder(_) => false,
-            LookupCall::Securing(section) => section.is_last_look(),
-            LookupCall::Ending(_) => false,
+            LookupCall::LookingAtHolder(_) => None,
+            LookupCall::Securing(section) => section.taught(reply),
+            LookupCall::Ending(_) => None,
         }
     }
 }
 
-/// After a brick gave the directory's record.
-fn survey_on(sought: Sought, brick: BrickNo) -> LookupCall
-    ensures { result ≡ surveyed sought brick }
+/// After a brick gave the directory's record, with the ranges of all bricks up to it.
+fn survey_on(location: Location, brick: BrickNo, layout: &Layout) -> LookupCall
+    ensures { result ≡ surveyed location brick layout.now }
 {
-    if sought.location.bricks.saturating_sub(brick.0) <= 1 {
-        LookupCall::LookingAtHolder(sought)
+    if location.bricks.saturating_sub(brick.0) <= 1 {
+        aim(location, layout)
     } else {
-        LookupCall::Surveying(sought, BrickNo(brick.0 + 1))
+        LookupCall::Surveying(location, BrickNo(brick.0 + 1), *layout)
     }
 }
 
@@ -120,9 +140,9 @@ impl Machine for LookupCall {
 
     fn next(&self) -> Ask {
         match self {
-            LookupCall::Surveying(sought, brick) => Ask {
+            LookupCall::Surveying(location, brick, _) => Ask {
                 brick: *brick,
-                request: Request::OnNames(NameRequest::Dirinfo(sought.location.directory)),
+                request: Request::OnNames(NameRequest::Dirinfo(location.directory)),
             },
             LookupCall::LookingAtHolder(sought) => Ask {
                 brick: sought.holder,
@@ -144,11 +164,12 @@ impl Machine for LookupCall {
         ensures memory { MatchTurn result (λ m. lookup_starved m ≡ (lookup_starved self || starves (lookup_asks self).request reply)) (λ d. is_enomem d.answer ≡ (lookup_starved self || starves (lookup_asks self).request reply)) }
     {
         match self {
-            LookupCall::Surveying(sought, brick) => {
+            LookupCall::Surveying(location, brick, layout) => {
                 if is_no_memory(&reply) {
                     Turn::Done(want_of_memory())
                 } else {
-                    Turn::Go(survey_on(sought, brick))
+                    let layout = lengthen(layout, range_shown(&reply));
+                    Turn::Go(survey_on(location, brick, &layout))
                 }
             }
             LookupCall::LookingAtHolder(sought) => {

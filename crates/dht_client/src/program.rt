@@ -1,11 +1,11 @@
 //! The program of a call, whichever it is.
 
-ghost use Rattle.std.specs.Prelude.{◌≡◌, ◌<◌, ◌||◌, ◌&&◌, not, ℕ, [], None};
+ghost use Rattle.std.specs.Prelude.{◌≡◌, ◌<◌, ◌||◌, ℕ, [], None};
 ghost use Rattle.dht_section.specs.Scene.{Scene, Sound, Moved, Earned};
 ghost use Rattle.dht_section.specs.Turns.{MatchTurn};
 ghost use Rattle.dht_section.specs.Section.{LocksBy};
 ghost use Rattle.dht_client.specs.Memory.{is_enomem, starves};
-ghost use Rattle.dht_client.specs.Program.{program_asks, program_left, program_locks, program_starved, ProgramKnows, teaches};
+ghost use Rattle.dht_client.specs.Program.{program_asks, program_left, program_locks, program_starved, program_taught, ProgramKnows};
 ghost use Rattle.dht_client.specs.ProgramLaws.{program_permitted, program_stable};
 
 use super::create::CreateCall;
@@ -13,7 +13,7 @@ use super::lookup::LookupCall;
 use dht_brick::machines::{Ask, Finish, Turn};
 use dht_brick::requests::Reply;
 use dht_section::machine::Machine;
-use dht_section::replies::is_no_memory;
+use dht_xattr::layout::Layout;
 
 /// The program of a call.
 #[derive(Debug, Drop)]
@@ -23,18 +23,14 @@ pub enum Program {
 }
 
 impl Program {
-    /// Whether this reply to its request shows the layout: it is the last of those by which every
-    /// brick has shown its part.
-    #[tactic(auto, unfolding(crate::specs::Program::teaches))]
-    pub fn teaches(&self, reply: &Reply) -> bool
-        ensures { result ≡ teaches self.now reply.now }
+    /// The layout of the directory, where every brick has shown its range by this reply.
+    #[tactic(auto, unfolding(crate::specs::Program::program_taught))]
+    pub fn taught(&self, reply: &Reply) -> Option<Layout>
+        ensures { result ≡ program_taught self.now reply.now }
     {
-        if is_no_memory(reply) {
-            return false;
-        }
         match self {
-            Program::LookingUp(call) => call.is_last(),
-            Program::Creating(call) => call.is_last(),
+            Program::LookingUp(call) => call.taught(reply),
+            Program::Creating(call) => call.taught(reply),
         }
     }
 }

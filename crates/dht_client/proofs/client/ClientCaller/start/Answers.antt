@@ -9,15 +9,19 @@ returns-clause-knows c = λ s b.
 
 pub returns-clause-left : goal.returns-clause-left
 returns-clause-left c =
-    let e = ap program_left c.program.ensures.program ∙ first_steps c.args.self.now c.args.weights.now c.args.run c.args.call c.args.what.now in
-    let l = steps_cost c.args.self.now.knows_layout (Rattle.std.specs.Prelude.length c.args.weights.now) c.args.what.now in
+    let e = ap program_left c.program.ensures.program in
+    let f = first_steps c.args.self.now c.args.weights.now c.args.run c.args.call c.args.what.now in
+    let l = steps_cost (Rattle.std.specs.Prelude.is_some c.args.self.now.layout) (Rattle.std.specs.Prelude.length c.args.weights.now) c.args.what.now in
     omega arith
 
 pub returns-clause-asks : goal.returns-clause-asks
 returns-clause-asks c = ap program_asks c.program.ensures.program ∙ first_asked c.args.self.now c.args.weights.now c.args.run c.args.call c.args.what.now
 
 pub returns-clause-steps : goal.returns-clause-steps
-returns-clause-steps c = ap program_left c.program.ensures.program ∙ first_steps c.args.self.now c.args.weights.now c.args.run c.args.call c.args.what.now
+returns-clause-steps c =
+    let e = ap program_left c.program.ensures.program in
+    let f = first_steps c.args.self.now c.args.weights.now c.args.run c.args.call c.args.what.now in
+    omega arith
 
 pub returns-clause-locks : goal.returns-clause-locks
 returns-clause-locks c = ap program_locks c.program.ensures.program ∙ first_locks c.args.self.now c.args.weights.now c.args.run c.args.call c.args.what.now

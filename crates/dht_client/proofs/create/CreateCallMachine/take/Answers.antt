@@ -1,17 +1,17 @@
 use Rattle.std.proofs.Common.{sym}
-use Rattle.dht_client.proofs.CreateSteps.{section_runs, take_section, makes_at, take_outcome, take_made, take_end, closing_runs, take_closing}
+use Rattle.dht_client.proofs.CreateSteps.{section_runs, take_section, comes_at, take_outcome, take_made, take_end, closing_runs, take_closing}
 use Rattle.dht_client.proofs.create.CreateCallMachine.take.Goals as goal
 
 pub returns-in-Go-clause-moves : goal.returns-in-Go-clause-moves
 returns-in-Go-clause-moves c = λ s t sound after knows moved at.
-    let q = section_runs c.args.self c.in-Securing.new c.in-Securing.section c.args.reply s t c.in-Securing.is knows moved in
-    take_section c.args.self c.in-Securing.new c.in-Securing.section c.in-Go.section c.args.reply s t c.in-Securing.is q c.in-Go.ensures.location (c.in-Go.ensures.moves s t sound after q.knows q.moved at)
+    let q = section_runs c.args.self c.in-Securing.origin c.in-Securing.section c.args.reply s t c.in-Securing.is knows moved in
+    take_section c.args.self c.in-Securing.origin c.in-Securing.section c.in-Go.section c.args.reply s t c.in-Securing.is q c.in-Go.ensures.location (c.in-Go.ensures.moves s t sound after q.knows q.moved at)
 
 pub returns-in-Done-clause-moves : goal.returns-in-Done-clause-moves
 returns-in-Done-clause-moves c = λ s t sound after knows moved at.
-    let q = section_runs c.args.self c.in-Securing.new c.in-Securing.section c.args.reply s t c.in-Securing.is knows moved in
-    take_outcome c.args.self c.secured.result c.in-Securing.new c.in-Securing.section c.args.reply s t c.in-Securing.is q c.secured.ensures.left
-    (c.secured.ensures.knows t (makes_at c.in-Securing.new _ c.in-Securing.section c.args.reply s t q c.in-Done.ensures.location) (c.in-Done.ensures.moves s t sound after q.knows q.moved at))
+    let q = section_runs c.args.self c.in-Securing.origin c.in-Securing.section c.args.reply s t c.in-Securing.is knows moved in
+    take_outcome c.args.self c.secured.result c.in-Securing.origin c.in-Securing.section c.args.reply s t c.in-Securing.is q c.secured.ensures.left
+    (c.secured.ensures.knows t after (comes_at c.in-Securing.origin _ c.in-Securing.section c.args.reply s t q c.in-Done.ensures.location) (c.in-Done.ensures.moves s t sound after q.knows q.moved at))
 
 pub returns-else-is_no_memory-clause-moves : goal.returns-else-is_no_memory-clause-moves
 returns-else-is_no_memory-clause-moves c = λ s t sound after knows moved at.
