@@ -38,6 +38,7 @@ others_line d s c r x et ew = record {
   slots = λ g n h b. refl;
   names = λ g n h. ap (λ (t : Tree). t.names (g, n)) et;
   dirs = λ g. ap (λ (t : Tree). t.dirs g) et;
+  ranges = λ g b. refl;
   later = omega arith;
   past = past_told s x;
 }

@@ -1,6 +1,8 @@
 -- What holds of new bricks, before the first event after the volume line.
-use Rattle.std.proofs.Common.{◌≡◌, ◌≢◌, ◌<◌, ◌≤◌, ℕ, Bool, true, false, List, [], ◌∷◌, refl, sym, ap, ◌∙◌, subst, inl, inr, length, arith}
-use Rattle.std.specs.Prelude.{Option, Some, None, nat_eq, is_some, MatchBool}
+use Rattle.std.proofs.Common.{◌≡◌, ◌≢◌, ◌<◌, ◌≤◌, ℕ, Bool, true, false, List, [], ◌∷◌, ◌++◌, refl, sym, ap, ◌∙◌, subst, inl, inr, length, arith}
+use Rattle.std.specs.Prelude.{zero, suc, Option, Some, None, IfSome, nat_eq, is_some, take, slice_index_or, MatchBool}
+use Rattle.std.proofs.Math.Seq.{take-suc}
+use Rattle.std.proofs.lemmas.List.{take_all}
 use Rattle.std.proofs.lemmas.Bool.{cases_lt}
 use Rattle.std.specs.FinMap.{get, empty, get-empty}
 use Rattle.dht_types.proofs.PutLaws.{exact_gfid}
@@ -12,12 +14,18 @@ use Rattle.dht_types.specs.declared.identifiers.ClientNo.{ClientNo}
 use Rattle.dht_types.specs.declared.lines.LayoutValue.{LayoutValue}
 use Rattle.dht_types.specs.declared.lines.Line.TheVariants.{Volume}
 use Rattle.dht_types.specs.declared.events.Event.TheVariants as event
+use Rattle.dht_xattr.specs.Range.{encoded, decoded}
+use Rattle.dht_xattr.specs.RangeLaws.{decoded_encoded}
+use Rattle.dht_xattr.specs.Plan.{HasWeight, IsPlanned, planned}
+use Rattle.dht_xattr.specs.PlanLaws.{planned_length, planned_valid}
+use Rattle.dht_xattr.specs.declared.range.Range.{Range}
 use Rattle.dht_brick.specs.Contents.{Contents, newborn, slot, dir, file, gfid_cmp, entry_cmp}
+use Rattle.dht_brick.specs.declared.requests.Main.TheVariants.{File}
 use Rattle.dht_brick.specs.declared.journal.JournalEntry.{JournalEntry}
-use Rattle.dht_section.specs.Scene.{Disk, Scene, Kept, slot_at, file_at}
+use Rattle.dht_section.specs.Scene.{Disk, Scene, Kept, slot_at, file_at, range_of_value, range_of, range_at, ranges_below, layout_of}
 use Rattle.dht_section.proofs.ContentsLaws.{gfid_total, gfid_exact, get_at, get_off}
 use Rattle.dht_section.proofs.KeptLaws.{cases}
-use Rattle.dht_world.specs.Bricks.{AreNewborn, nothing, Logged}
+use Rattle.dht_world.specs.Bricks.{AreNewborn, value_of, nothing, Logged}
 use Rattle.dht_world.specs.Following.{Block}
 use Rattle.dht_world.specs.World.{Works, At}
 
@@ -35,32 +43,66 @@ root_only v g = elim (cases same_gfid exact_gfid g root (same_gfid g root) refl)
 ]
 
 -- what holds of a brick that is new, and of a place with no brick, holds everywhere
-each_new : (P : Contents → Type 0) (d : Disk) (js : ℕ → List JournalEntry) → AreNewborn d js → ((v : Option LayoutValue) → P (newborn v)) → P nothing → (b : ℕ) → P (d.brick b)
-each_new P d js h new none b = elim (cases_lt b d.count) [
-  | inl l ↦ (let w = h.contents b l in subst P (sym w.1) (new w.0))
+each_new : (P : Contents → Type 0) (ws : List ℕ) (d : Disk) (js : ℕ → List JournalEntry) → AreNewborn ws d js → ((v : Option LayoutValue) → P (newborn v)) → P nothing → (b : ℕ) → P (d.brick b)
+each_new P ws d js h new none b = elim (cases_lt b d.count) [
+  | inl l ↦ subst P (sym (h.contents b l)) (new _)
   | inr l ↦ subst P (sym (h.elsewhere b l)) none
 ]
 
-no_slot : (d : Disk) (js : ℕ → List JournalEntry) → AreNewborn d js → (b : ℕ) (e : Entry) → slot_at d b e ≡ None
-no_slot d js h b e = each_new (λ c. slot c e ≡ None) d js h (λ v. get-empty entry_cmp e) (get-empty entry_cmp e) b
+no_slot : (ws : List ℕ) (d : Disk) (js : ℕ → List JournalEntry) → AreNewborn ws d js → (b : ℕ) (e : Entry) → slot_at d b e ≡ None
+no_slot ws d js h b e = each_new (λ c. slot c e ≡ None) ws d js h (λ v. get-empty entry_cmp e) (get-empty entry_cmp e) b
 
-no_file : (d : Disk) (js : ℕ → List JournalEntry) → AreNewborn d js → (b : ℕ) (f : Gfid) → file_at d b f ≡ None
-no_file d js h b f = each_new (λ c. file c f ≡ None) d js h (λ v. get-empty gfid_cmp f) (get-empty gfid_cmp f) b
+no_file : (ws : List ℕ) (d : Disk) (js : ℕ → List JournalEntry) → AreNewborn ws d js → (b : ℕ) (f : Gfid) → file_at d b f ≡ None
+no_file ws d js h b f = each_new (λ c. file c f ≡ None) ws d js h (λ v. get-empty gfid_cmp f) (get-empty gfid_cmp f) b
 
-root_at : (d : Disk) (js : ℕ → List JournalEntry) → AreNewborn d js → (b : ℕ) (g : Gfid) → b < d.count → is_some (dir (d.brick b) g) ≡ same_gfid g root
-root_at d js h b g l = (let w = h.contents b l in ap (λ (c : Contents). is_some (dir c g)) w.1 ∙ root_only w.0 g)
+root_at : (ws : List ℕ) (d : Disk) (js : ℕ → List JournalEntry) → AreNewborn ws d js → (b : ℕ) (g : Gfid) → b < d.count → is_some (dir (d.brick b) g) ≡ same_gfid g root
+root_at ws d js h b g l = ap (λ (c : Contents). is_some (dir c g)) (h.contents b l) ∙ root_only _ g
 
-root_home : (d : Disk) (js : ℕ → List JournalEntry) → AreNewborn d js → 0 < d.count → (g : Gfid) → same_gfid g root ≡ is_some (dir (d.brick (home g)) g)
-root_home d js h some g = elim (cases_lt (home g) d.count) [
-  | inl l ↦ sym (root_at d js h (home g) g l)
+-- the range of the root on a new brick is the planned one
+range_back : (o : Option Range) → IfSome o IsPlanned → range_of_value (value_of o) ≡ o
+unfolding range_of_value
+range_back None h = refl
+range_back (Some r) h = decoded_encoded r h.range.committed h.range.ordered h.range.below
+
+new_range : (v : Option LayoutValue) → range_of (dir (newborn v) root) ≡ range_of_value v
+new_range v = ap range_of (get_at gfid_total empty root (record { value = v }))
+
+range_new : (ws : List ℕ) (d : Disk) (js : ℕ → List JournalEntry) → AreNewborn ws d js → HasWeight ws → d.count ≡ length ws → (b : ℕ) → b < d.count → range_at d root b ≡ slice_index_or (planned ws root) b None
+range_new ws d js h heavy count b l =
+    let o = slice_index_or (planned ws root) b None in
+    let size = planned_length ws root in
+    ap (λ (c : Contents). range_of (dir c root)) (h.contents b l)
+    ∙ (new_range (value_of o) ∙ range_back o (planned_valid ws root heavy b None (omega arith)))
+
+below_taken : (d : Disk) (g : Gfid) (xs : List (Option Range)) (n : ℕ) → n ≤ length xs → ((b : ℕ) → b < n → range_at d g b ≡ slice_index_or xs b None) → ranges_below d g n ≡ take n xs
+unfolding ranges_below
+below_taken d g xs zero l h = refl
+below_taken d g xs (suc n) l h =
+    ap (λ ys. ys ++ range_at d g n ∷ []) (below_taken d g xs n (omega arith) (λ b k. h b (omega arith)))
+    ∙ (ap (λ x. take n xs ++ x ∷ []) (h n (omega arith))
+    ∙ sym (take-suc xs n None (omega arith)))
+
+planned_new : (ws : List ℕ) (d : Disk) (js : ℕ → List JournalEntry) → AreNewborn ws d js → HasWeight ws → d.count ≡ length ws → layout_of d root ≡ planned ws root
+planned_new ws d js h heavy count =
+    let size = planned_length ws root in
+    below_taken d root (planned ws root) d.count (omega arith) (range_new ws d js h heavy count)
+    ∙ take_all d.count (planned ws root) (omega arith)
+
+root_home : (ws : List ℕ) (d : Disk) (js : ℕ → List JournalEntry) → AreNewborn ws d js → 0 < d.count → (g : Gfid) → same_gfid g root ≡ is_some (dir (d.brick (home g)) g)
+root_home ws d js h some g = elim (cases_lt (home g) d.count) [
+  | inl l ↦ sym (root_at ws d js h (home g) g l)
   | inr l ↦ is_not g (λ e. let z : home g ≡ 0 = ap home e in absurd (omega arith)) ∙ sym (ap (λ (c : Contents). is_some (dir c g)) (h.elsewhere (home g) l) ∙ ap is_some (get-empty gfid_cmp g))
 ]
 
-kept_start : (d : Disk) (js : ℕ → List JournalEntry) (ws : List ℕ) → AreNewborn d js → d.count ≡ length ws → 0 < d.count → d.count ≤ 32 → Kept d (told start (Volume ws))
-kept_start d js ws h count some few = record {
-  stands = record { names = λ e b l. no_slot d js h b e; dirs = root_home d js h some; bytes = λ f b l. no_file d js h b f };
-  one = λ e b i m n lb li hb hi. absurd (let z : Some m ≡ None = sym hb ∙ no_slot d js h b e in cc);
-  roots = λ b g l. root_at d js h b g l;
+kept_start : (d : Disk) (js : ℕ → List JournalEntry) (ws : List ℕ) → AreNewborn ws d js → HasWeight ws → d.count ≡ length ws → 0 < d.count → d.count ≤ 32 → Kept d (told start (Volume ws))
+kept_start d js ws h heavy count some few = record {
+  stands = record { names = λ e b l. no_slot ws d js h b e; dirs = root_home ws d js h some; bytes = λ f b l. no_file ws d js h b f };
+  one = λ e b i m n lb li hb hi. absurd (let z : Some m ≡ None = sym hb ∙ no_slot ws d js h b e in cc);
+  roots = λ b g l. root_at ws d js h b g l;
+  held = λ e b m l q. absurd (let z : Some m ≡ None = sym q ∙ no_slot ws d js h b e in cc);
+  recorded = λ e b f l q. absurd (let z : Some (File f) ≡ None = sym q ∙ no_slot ws d js h b e in cc);
+  planned = planned_new ws d js h heavy count;
+  heavy = heavy;
   some_brick = some;
   counted = count;
   few = few;
@@ -70,12 +112,12 @@ kept_start d js ws h count some few = record {
 }
 
 -- before the first event after the volume line
-pub at_start : {C : Type 0} (number : C → ClientNo) (is_busy : C → Bool) (knows_of : C → Scene → Type 0) (left : C → ℕ) (d : Disk) (js : ℕ → List JournalEntry) (c : C) (ws : List ℕ) → AreNewborn d js → d.count ≡ length ws → 0 < d.count → d.count ≤ 32 → number c ≡ record { 0 = 0 } → is_busy c ≡ false → At number is_busy knows_of left d js c ws 1 0 1 (Volume ws ∷ [])
-at_start number is_busy knows_of left d js c ws h count some few who idle = record {
+pub at_start : {C : Type 0} (number : C → ClientNo) (is_busy : C → Bool) (knows_of : C → Scene → Type 0) (left : C → ℕ) (d : Disk) (js : ℕ → List JournalEntry) (c : C) (ws : List ℕ) → AreNewborn ws d js → HasWeight ws → d.count ≡ length ws → 0 < d.count → d.count ≤ 32 → number c ≡ record { 0 = 0 } → is_busy c ≡ false → At number is_busy knows_of left d js c ws 1 0 1 (Volume ws ∷ [])
+at_start number is_busy knows_of left d js c ws h heavy count some few who idle = record {
   legal = record { from = (refl, tt); whole = refl };
   in_time = (tt, tt);
   fit = record {
-    kept = kept_start d js ws h count some few;
+    kept = kept_start d js ws h heavy count some few;
     logged = record { steps = λ b. ap (Rattle.std.specs.Prelude.map Rattle.dht_world.specs.Bricks.shown) (h.journals b); slots = λ b. ap Rattle.dht_world.specs.Bricks.changed_slots (h.journals b) };
     same_weights = refl;
     same_run = refl;

@@ -1,9 +1,12 @@
 -- The bricks of a world: what they contain, and their journals.
-use Rattle.std.specs.Prelude.{ℕ, ◌≡◌, ◌<◌, ◌≤◌, if◌then◌else◌, Option, Some, None, List, [], ◌∷◌, ◌++◌, map, length, slice_get, nat_eq}
+use Rattle.std.specs.Prelude.{ℕ, ◌≡◌, ◌<◌, ◌≤◌, if◌then◌else◌, Option, Some, None, List, [], ◌∷◌, ◌++◌, map, length, slice_get, slice_index_or, nat_eq}
 use Rattle.std.specs.FinMap.{empty}
-use Rattle.dht_types.specs.Gfid.{Entry}
+use Rattle.dht_types.specs.Gfid.{Entry, root}
 use Rattle.dht_types.specs.Story.{Story, Act, is_change}
 use Rattle.dht_types.specs.declared.lines.LayoutValue.{LayoutValue}
+use Rattle.dht_xattr.specs.Range.{encoded}
+use Rattle.dht_xattr.specs.Plan.{planned}
+use Rattle.dht_xattr.specs.declared.range.Range.{Range}
 use Rattle.dht_brick.specs.Contents.{Contents, newborn}
 use Rattle.dht_brick.specs.declared.journal.JournalEntry.{JournalEntry}
 use Rattle.dht_brick.specs.Rows.{Serves}
@@ -49,9 +52,18 @@ pub record Logged (journals : ℕ → List JournalEntry) (s : Story) : Type 0 wh
   pub steps : (b : ℕ) → map shown (journals b) ≡ s.acts b
   pub slots : (b : ℕ) → changed_slots (journals b) ≡ s.changes b
 
--- the bricks are new: each has the root's record alone, and has served nothing
-pub record AreNewborn (d : Disk) (js : ℕ → List JournalEntry) : Type 0 where
-  pub contents : (b : ℕ) → b < d.count → (value : Option LayoutValue) × (d.brick b ≡ newborn value)
+-- the attribute that says a range, where there is one
+abbrev pub value_of : Option Range → Option LayoutValue
+value_of None = None
+value_of (Some r) = Some (record { 0 = encoded r })
+
+-- a new brick of this number, in a volume of these weights: it has the root's record alone, with the range that is planned for the brick
+abbrev pub new_brick : List ℕ → ℕ → Contents
+new_brick ws b = newborn (value_of (slice_index_or (planned ws root) b None))
+
+-- the bricks of a volume of these weights are new, and have served nothing
+pub record AreNewborn (ws : List ℕ) (d : Disk) (js : ℕ → List JournalEntry) : Type 0 where
+  pub contents : (b : ℕ) → b < d.count → d.brick b ≡ new_brick ws b
   pub elsewhere : (b : ℕ) → d.count ≤ b → d.brick b ≡ nothing
   pub journals : (b : ℕ) → js b ≡ []
 

@@ -3,6 +3,7 @@
 ghost use Rattle.std.specs.Prelude.{◌≡◌, ◌+◌, ◌≤◌, ◌<◌, ◌^◌, ℕ, true, false, List, [], ◌∷◌, ◌++◌, OnOk, OnErr, IfOk, vec_len, vec_capacity, length};
 ghost use Rattle.dht_types.specs.Story.{story_of};
 ghost use Rattle.dht_types.specs.declared.lines.Line.{Line};
+ghost use Rattle.dht_xattr.specs.Plan.{HasWeight};
 ghost use Rattle.dht_section.specs.Begins.{IsInRoot};
 ghost use Rattle.dht_world.specs.Bricks.{disk_of, journals_of, AreNewborn, ServedAt};
 ghost use Rattle.dht_world.specs.World.{CanHappen};
@@ -59,10 +60,12 @@ fn serve_at<B: Brick>(
 }
 
 impl<B: Brick, C: Caller> World<B, C> {
-    /// The world of new bricks of these weights, in the first run, after the volume's line.
+    /// The world of new bricks of these weights, in the first run, after the volume's line. Each brick
+    /// has the range of the root that is planned for it.
     pub fn new(weights: Weights, bricks: Vec<B>, client: C) -> World<B, C>
-        requires newborn { AreNewborn (disk_of B.contents bricks.items) (journals_of B.journal bricks.items) }
+        requires newborn { AreNewborn weights (disk_of B.contents bricks.items) (journals_of B.journal bricks.items) }
         requires counted { vec_len bricks ≡ length weights }
+        requires heavy { HasWeight weights }
         requires some { 0 < length weights }
         requires few { length weights ≤ 32 }
         requires who { C.number client ≡ record { 0 = 0 } }
