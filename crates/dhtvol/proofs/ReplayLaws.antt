@@ -14,7 +14,7 @@ use Rattle.dht_brick.specs.Contents.{Contents}
 use Rattle.dht_brick.specs.declared.journal.JournalEntry.{JournalEntry}
 use Rattle.dht_section.specs.Scene.{Disk, Scene}
 use Rattle.dht_sched.specs.Schedule.{schedule_text, IsScheduled, IsOneLine}
-use Rattle.dht_section.proofs.KeptLaws.{nat_cases}
+use Rattle.dht_section.proofs.KeptLaws.{nat_cases, placed_of}
 use Rattle.dht_sched.specs.Transcript.{line_text, lines_text}
 use Rattle.dht_world.specs.Bricks.{disk_of, journals_of}
 use Rattle.dht_world.specs.Following.{ComesFrom, Block}
@@ -121,6 +121,7 @@ transcript_of contents journal number is_busy knows_of left goes_on w events lin
   follows = comes;
   logged = at.fit.logged;
   stands = λ some. at.fit.kept.stands;
+  placed = λ e f h. placed_of (disk_of contents w.bricks.items) (story_of lines) e f at.fit.kept h;
   in_time = at.in_time;
   answers = λ c r e. elim (nat_cases c 0) [
     | inl q ↦ by (is_busy w.client) refl at.fit.own r (ap (story_of lines).running (sym q) ∙ e)

@@ -41,6 +41,7 @@ no_transcript contents journal = record {
   follows = refl;
   logged = record { steps = λ b. refl; slots = λ b. refl };
   stands = λ some. absurd (some refl);
+  placed = λ e f h. absurd cc;
   in_time = tt;
   answers = λ c r e. absurd cc;
   counted = refl;

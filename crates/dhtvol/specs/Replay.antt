@@ -1,6 +1,9 @@
 -- What a run over the bytes of a schedule does: which events it carries out, and what it writes.
 use Rattle.std.specs.Prelude.{ℕ, ◌+◌, ◌<◌, ◌≤◌, ◌≡◌, ◌≢◌, ◌⊎◌, Option, Some, None, IfSome, List, [], ◌∷◌, ◌++◌, length, take}
 use Rattle.dht_types.specs.Cost.{cost}
+use Rattle.dht_types.specs.Gfid.{Entry}
+use Rattle.dht_types.specs.Tree.{IsFile}
+use Rattle.dht_types.specs.declared.identifiers.Gfid.{Gfid}
 use Rattle.dht_types.specs.Story.{Story, Running, Legal, story_of, start}
 use Rattle.dht_types.specs.declared.identifiers.BrickNo.{BrickNo}
 use Rattle.dht_types.specs.declared.events.Event.{Event}
@@ -11,7 +14,7 @@ use Rattle.dht_types.specs.declared.lines.DumpLine.TheVariants.{End}
 use Rattle.dht_brick.specs.Contents.{Contents}
 use Rattle.dht_brick.specs.Dump.{dump_of}
 use Rattle.dht_brick.specs.declared.journal.JournalEntry.{JournalEntry}
-use Rattle.dht_section.specs.Scene.{Disk, Stands}
+use Rattle.dht_section.specs.Scene.{Disk, Stands, Placed}
 use Rattle.dht_sched.specs.Schedule.{schedule_text, IsScheduled}
 use Rattle.dht_sched.specs.Transcript.{lines_text, dump_lines_text, malformed_text}
 use Rattle.dht_world.specs.Bricks.{disk_of, journals_of, Logged}
@@ -57,12 +60,13 @@ pub record IsMalformed (events : List Event) (rest : List ℕ) : Type 0 where
   pub no_end : rest ≡ [] → events ≡ []
   pub no_line : (e : Event) (more : List ℕ) → MayCome events e → rest ≡ schedule_text e ++ 10 ∷ more → length (schedule_of events) + length (schedule_text e) + 1 ≤ INPUT_LIMIT → ⊥
 
--- the lines are a transcript of the events, over bricks that contain and served this in the end: they are legal, come from the events one by one, and agree with the bricks' journals; the bricks stand for the lines' tree; and each call answers in time
+-- the lines are a transcript of the events, over bricks that contain and served this in the end: they are legal, come from the events one by one, and agree with the bricks' journals; the bricks stand for the lines' tree, each file of which stands once, on its holder; and each call answers in time
 pub record IsTranscript (events : List Event) (lines : List Line) (d : Disk) (js : ℕ → List JournalEntry) : Type 0 where
   pub legal : Legal lines
   pub follows : ComesFrom start 1 events lines
   pub logged : Logged js (story_of lines)
   pub stands : events ≢ [] → Stands d (story_of lines).tree
+  pub placed : (e : Entry) (f : Gfid) → (story_of lines).tree.names e ≡ Some (IsFile f) → Placed d e
   pub in_time : InTimeFrom start lines
   pub answers : (c : ℕ) (r : Running) → (story_of lines).running c ≡ Some r → r.steps < cost (length (story_of lines).weights) r.call
   pub counted : d.count ≡ length (story_of lines).weights

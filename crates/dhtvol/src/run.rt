@@ -1,13 +1,15 @@
 //! The one call that the program makes.
 
-ghost use Rattle.std.specs.Prelude.{◌≡◌, ◌≢◌, ◌⊎◌, ◌+◌, ◌<◌, ◌≤◌, ℕ, Option, Some, List, [], ◌∷◌, IfOk, IfErr, OnOk, OnErr, IfSome, length, take, vec_len};
+ghost use Rattle.std.specs.Prelude.{◌≡◌, ◌≢◌, ◌⊎◌, ◌+◌, ◌<◌, ◌≤◌, ℕ, Option, Some, List, [], ◌∷◌, IfOk, IfErr, OnOk, OnErr, IfSome, All, length, take, vec_len};
 ghost use Rattle.dht_types.specs.declared.events.Event.{Event as AnEvent};
 ghost use Rattle.dht_types.specs.declared.lines.Line.{Line as ALine};
 ghost use Rattle.dht_brick.specs.Plain.{plain_contents, plain_journal};
 ghost use Rattle.dht_client.specs.Client.{client_number, client_is_busy, client_left, ClientKnows};
 ghost use Rattle.dht_sched.specs.Schedule.{IsScheduledVolume};
 ghost use Rattle.dht_sched.specs.Transcript.{usage_text};
-ghost use Rattle.dht_world.specs.Bricks.{disk_of, journals_of, AreNewborn};
+ghost use Rattle.dht_types.specs.Gfid.{root};
+ghost use Rattle.dht_xattr.specs.Plan.{IsPlanned, planned};
+ghost use Rattle.dht_world.specs.Bricks.{disk_of, journals_of, value_of, AreNewborn};
 ghost use Rattle.dht_world.specs.Places.{IsAt};
 ghost use Rattle.dhtvol.specs.declared.lines.TheConstants.{INPUT_LIMIT};
 ghost use Rattle.dhtvol.specs.Lines.{Reader, input_of, HasNoNewline};
@@ -29,10 +31,13 @@ use dht_brick::plain::PlainBrick;
 use dht_client::client::Client;
 use dht_sched::{one_line, print_usage};
 use dht_types::events::Event;
-use dht_types::identifiers::ClientNo;
+use dht_types::identifiers::{ClientNo, Gfid};
 use dht_types::lines::LayoutValue;
-use dht_types::volumes::Weights;
+use dht_types::volumes::{Volume, Weights};
 use dht_world::world::World;
+use dht_xattr::layout::Layout;
+use dht_xattr::plan::plan;
+use dht_xattr::range::{Range, encode};
 use std::alloc::{AllocError, Global};
 
 /// Where the bricks of a replay stand afterwards.
@@ -42,20 +47,44 @@ pub struct Shelf {
     pub mem: Vec<PlainBrick>,
 }
 
-/// The range of all hashes, with commit word 0.
-const WHOLE: LayoutValue = LayoutValue([0, 0, 0, 0, 0, 0, 0, 0, 0, 0, 0, 0, 255, 255, 255, 255]);
+/// The attribute that says a range, where there is one.
+fn value_of(range: &Option<Range>) -> Option<LayoutValue>
+    requires { IfSome range.now IsPlanned }
+    ensures { result ≡ value_of range.now }
+{
+    match range {
+        Some(range) => Some(LayoutValue(encode(*range))),
+        None => None,
+    }
+}
 
-/// New bricks of these weights. The root has the whole range on each brick with weight.
-fn new_bricks(alloc: Global, weights: &[u16]) -> Result<Vec<PlainBrick>, AllocError>
-    ensures count { IfOk result (λ v. vec_len v ≡ length weights.now) }
-    ensures newborn { IfOk result (λ v. AreNewborn (disk_of plain_contents v.items) (journals_of plain_journal v.items)) }
+/// New bricks, one for each range of this layout: each has the root with its range.
+fn new_bricks(alloc: Global, layout: &Layout) -> Result<Vec<PlainBrick>, AllocError>
+    requires valid { All (λ range. IfSome range IsPlanned) layout.now }
+    ensures count { IfOk result (λ v. vec_len v ≡ length layout.now) }
+    ensures newborn { (ws : List ℕ) → layout.now ≡ planned ws root → IfOk result (λ v. AreNewborn ws (disk_of plain_contents v.items) (journals_of plain_journal v.items)) }
 {
     let mut bricks = Vec::new(alloc);
-    for weight in weights {
-        let value = if *weight > 0 { Some(WHOLE) } else { None };
-        bricks.push(PlainBrick::new(alloc, value)?)?;
+    for range in layout.as_slice() {
+        bricks.push(PlainBrick::new(alloc, value_of(range))?)?;
     }
     Ok(bricks)
+}
+
+/// The bricks of a new volume of these weights. The root has its planned range on each.
+fn bricks_of(alloc: Global, weights: &Weights) -> Result<Vec<PlainBrick>, Ending>
+    requires volume { IsScheduledVolume weights.now }
+    ensures count { IfOk result (λ v. vec_len v ≡ length weights.now) }
+    ensures newborn { IfOk result (λ v. AreNewborn weights.now (disk_of plain_contents v.items) (journals_of plain_journal v.items)) }
+    ensures memory { OnErr result (result ≡ Err Ending.OutOfMemory) }
+{
+    let Ok(volume) = Volume::replay(alloc, weights, 1) else {
+        return Err(Ending::OutOfMemory);
+    };
+    match new_bricks(alloc, &plan(&volume, Gfid::ROOT)) {
+        Ok(bricks) => Ok(bricks),
+        Err(_) => Err(Ending::OutOfMemory),
+    }
 }
 
 /// The weights of the volume line, the first of the schedule.
@@ -96,7 +125,7 @@ fn replay_volume<S: Source, K: Sink>(
     ensures source { result ≡ Ending.SourceFailed → HasFault (S.faults source.old) (S.faults source.new) }
     ensures sink { result ≡ Ending.SinkFailed → HasFault (K.faults sink.old) (K.faults sink.new) }
 {
-    let Ok(bricks) = new_bricks(alloc, weights.as_slice()) else {
+    let Ok(bricks) = bricks_of(alloc, &weights) else {
         return Ending::OutOfMemory;
     };
     let Ok(shown) = weights.copied(alloc) else {

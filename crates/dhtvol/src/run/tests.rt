@@ -82,6 +82,27 @@ fn a_schedule_is_replayed(rt: HostRuntime) -> Result<(), Fail> {
     Ok(())
 }
 
+/// A volume alone: its bricks share the root's hashes.
+const SMALLEST: [&str; 6] = [
+    "volume 2 1 1",
+    "brick 0 up",
+    "dir 0 00000000-0000-0000-0000-000000000001 0000000000000000000000007ffffffe",
+    "brick 1 up",
+    "dir 1 00000000-0000-0000-0000-000000000001 00000000000000007fffffffffffffff",
+    "end",
+];
+
+#[test]
+fn the_smallest_volume_is_dumped(rt: HostRuntime) -> Result<(), Fail> {
+    let alloc = rt.alloc();
+    let mut source = MemSource::new(text(alloc, &SMALLEST[..1])?, Vec::new(alloc));
+    let mut sink = MemSink::new(alloc, 2_000, Vec::new(alloc))?;
+    let outcome = run_word(alloc, b"replay", &mut source, &mut sink)?;
+    assert_eq!(rt; outcome, (0, 2));
+    assert_eq!(rt; sink.bytes(), text(alloc, &SMALLEST)?.as_slice());
+    Ok(())
+}
+
 #[test]
 fn other_words_are_refused(rt: HostRuntime) -> Result<(), Fail> {
     let alloc = rt.alloc();
@@ -103,7 +124,7 @@ const MALFORMED: [(&[u8], &[u8]); 8] = [
     (b"\n", b"malformed 1\n"),
     (b"step 0\n", b"malformed 1\n"),
     (b"volume 2 1 0", b"malformed 1\n"),
-    (b"volume 2 1 1\n", b"malformed 1\n"),
+    (b"volume 2 0 0\n", b"malformed 1\n"),
     (b"volume 2 1 0\ncall 0 cre", b"volume 2 1 0\nmalformed 2\n"),
     (
         b"volume 2 1 0\nvolume 2 1 0\n",

@@ -3,8 +3,22 @@ use Rattle.dht_sched.specs.Transcript.{dump_lines_text}
 use Rattle.dhtvol.specs.Outside.{after_told, HasFault}
 use Rattle.dhtvol.specs.Replay.{dump_all}
 use Rattle.dhtvol.specs.SoFar.{EndsSo}
-use Rattle.dhtvol.proofs.FinishLaws.{ends_early, ends_short, short_dump, short_malformed}
+use Rattle.dhtvol.proofs.FinishLaws.{ends_done, ends_early, ends_malformed, ends_short, short_dump, short_malformed}
 use Rattle.dhtvol.proofs.replay.finish.Goals as goal
+
+pub returns-in-Ok-clause-ends : goal.returns-in-Ok-clause-ends
+returns-in-Ok-clause-ends g c = λ text rest before r h.
+    let w = c.args.world.now in
+    let taken = g.K.Sink.taken c.args.sink.now in
+    let reached = subst (EndsSo g.B.Brick.contents g.B.Brick.journal g.C.Caller.number g.C.Caller.is_busy g.C.Caller.knows g.C.Caller.left w c.args.count r text rest before taken) c.in-Done.is h in
+    ends_done g.B.Brick.contents g.B.Brick.journal g.C.Caller.number g.C.Caller.is_busy g.C.Caller.knows g.C.Caller.left g.met.C.Caller.goes_on w c.args.count text rest before taken _ reached.0 reached.1 (c.in-Ok.ensures.ok ∙ ap (λ bs. after_told taken (dump_lines_text (dump_all g.B.Brick.contents bs))) c.deref.ensures.value)
+
+pub returns-in-Ok-write_malformed-clause-ends : goal.returns-in-Ok-write_malformed-clause-ends
+returns-in-Ok-write_malformed-clause-ends g c = λ text rest before r h.
+    let w = c.args.world.now in
+    let taken = g.K.Sink.taken c.args.sink.now in
+    let reached = subst (EndsSo g.B.Brick.contents g.B.Brick.journal g.C.Caller.number g.C.Caller.is_busy g.C.Caller.knows g.C.Caller.left w c.args.count r text rest before taken) c.in-Malformed.is h in
+    ends_malformed g.B.Brick.contents g.B.Brick.journal g.C.Caller.number g.C.Caller.is_busy g.C.Caller.knows g.C.Caller.left g.met.C.Caller.goes_on w c.args.count text before taken _ reached c.in-Ok-write_malformed.ensures.ok
 
 pub returns-in-Err-clause-ends : goal.returns-in-Err-clause-ends
 returns-in-Err-clause-ends g c = λ text rest before r h.
