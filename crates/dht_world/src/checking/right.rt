@@ -1,12 +1,13 @@
-//! Transcripts that are right. The program writes all but the last two of them, which tell of a
-//! brick without memory and of a second client.
+//! Transcripts that are right. The program writes all but the last three of them, which tell of a
+//! brick without memory, of a directory that is none, and of a second client.
 
 use super::samples::{Happening, Sample, Told};
 use dht_types::calls::Answer;
 use dht_types::errors::Errno;
 use dht_types::identifiers::Gfid;
 use dht_types::lines::Cause;
-use dht_types::lines::ReplyKind::{NoMemory, Ok as Carried};
+use dht_types::lines::Refusal::Nodir;
+use dht_types::lines::ReplyKind::{NoMemory, Ok as Carried, Refused as Declined};
 use dht_types::lines::RequestKind::{Create, Dirinfo, Lock, Look, Unlock};
 
 /// The file that call 1 of client 0 makes in run 1 on brick 0.
@@ -225,6 +226,24 @@ pub const CREATE_WITHOUT_MEMORY: Sample = Sample {
         Told::Step(1, 0, 0, Unlock, Carried),
         Told::Step(1, 0, 0, Unlock, Carried),
         Told::Answer(1, 0, None, Answer::Fault(Errno::Enomem)),
+    ],
+};
+
+/// A gfid that is no directory.
+pub const NOWHERE: Gfid = Gfid(7);
+
+/// A create in a directory that is none.
+pub const CREATE_NOWHERE: Sample = Sample {
+    events: &[
+        Happening::Volume(WEIGHTS),
+        Happening::CreateIn(0, NOWHERE, b'a'),
+        Happening::Step(0),
+    ],
+    lines: &[
+        Told::Volume(WEIGHTS),
+        Told::CreateIn(1, 0, NOWHERE, b'a'),
+        Told::Step(1, 0, 0, Look, Declined(Nodir)),
+        Told::Answer(1, 0, Some(3), Answer::Fault(Errno::Estale)),
     ],
 };
 

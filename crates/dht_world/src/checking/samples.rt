@@ -9,7 +9,7 @@ use dht_types::names::Name;
 use dht_types::volumes::Weights;
 use std::alloc::{AllocError, Global};
 
-/// A line of a transcript. Each name is of the root and has one byte.
+/// A line of a transcript. Each name has one byte, and is of the root where no directory is told.
 #[derive(Clone, Copy)]
 pub enum Told {
     /// A volume line, by the weights.
@@ -18,22 +18,27 @@ pub enum Told {
     Create(u64, u16, u8),
     /// The line of a lookup, by call, client and name.
     Lookup(u64, u16, u8),
+    /// The line of a create, by call, client, directory and name.
+    CreateIn(u64, u16, Gfid, u8),
     /// A step line, by call, client, brick, request and reply.
     Step(u64, u16, u16, RequestKind, ReplyKind),
     /// A tree line, by call, name and file.
     Tree(u64, u8, Gfid),
+    /// A tree line, by call, directory, name and file.
+    TreeIn(u64, Gfid, u8, Gfid),
     /// An answer line, by call, client, point and answer.
     Answer(u64, u16, Option<u64>, Answer),
     /// The line of an event that was refused, by the number of the schedule's line.
     Refused(u64, Cause),
 }
 
-/// An event, by its client and the name.
+/// An event, by its client, and the directory and the name of a call.
 #[derive(Clone, Copy)]
 pub enum Happening {
     Volume(&'static [u16]),
     Create(u64, u8),
     Lookup(u64, u8),
+    CreateIn(u64, Gfid, u8),
     Step(u64),
 }
 
@@ -75,19 +80,31 @@ fn name_of(byte: u8) -> Name {
     Name::of(&[byte])
 }
 
+fn create_of(directory: Gfid, name: u8) -> Call {
+    Call::Create(directory, name_of(name))
+}
+
+fn lookup_of(name: u8) -> Call {
+    Call::Lookup(Gfid::ROOT, name_of(name))
+}
+
+fn call_line(call: u64, client: u16, what: Call) -> Line {
+    Line::Called(CallNo(call), ClientNo(client), what)
+}
+
+fn tree_line(call: u64, directory: Gfid, name: u8, file: Gfid) -> Line {
+    let step = TreeStep::AddFile(directory, name_of(name), file);
+    Line::Tree(CallNo(call), step)
+}
+
 fn line_of(alloc: Global, told: Told) -> Result<Line, AllocError> {
     Ok(match told {
         Told::Volume(weights) => Line::Volume(Weights::new(weights.to_vec(alloc)?)),
-        Told::Create(call, client, name) => Line::Called(
-            CallNo(call),
-            ClientNo(client),
-            Call::Create(Gfid::ROOT, name_of(name)),
-        ),
-        Told::Lookup(call, client, name) => Line::Called(
-            CallNo(call),
-            ClientNo(client),
-            Call::Lookup(Gfid::ROOT, name_of(name)),
-        ),
+        Told::Create(call, client, name) => call_line(call, client, create_of(Gfid::ROOT, name)),
+        Told::Lookup(call, client, name) => call_line(call, client, lookup_of(name)),
+        Told::CreateIn(call, client, directory, name) => {
+            call_line(call, client, create_of(directory, name))
+        }
         Told::Step(call, client, brick, request, reply) => Line::Stepped(
             CallNo(call),
             ClientNo(client),
@@ -95,10 +112,8 @@ fn line_of(alloc: Global, told: Told) -> Result<Line, AllocError> {
             request,
             reply,
         ),
-        Told::Tree(call, name, file) => Line::Tree(
-            CallNo(call),
-            TreeStep::AddFile(Gfid::ROOT, name_of(name), file),
-        ),
+        Told::Tree(call, name, file) => tree_line(call, Gfid::ROOT, name, file),
+        Told::TreeIn(call, directory, name, file) => tree_line(call, directory, name, file),
         Told::Answer(call, client, at, answer) => {
             Line::Answered(CallNo(call), ClientNo(client), at, answer)
         }
@@ -109,44 +124,46 @@ fn line_of(alloc: Global, told: Told) -> Result<Line, AllocError> {
 fn event_of(alloc: Global, happening: Happening) -> Result<Event, AllocError> {
     Ok(match happening {
         Happening::Volume(weights) => Event::Volume(Weights::new(weights.to_vec(alloc)?)),
-        Happening::Create(client, name) => {
-            Event::Call(client, Call::Create(Gfid::ROOT, name_of(name)))
-        }
-        Happening::Lookup(client, name) => {
-            Event::Call(client, Call::Lookup(Gfid::ROOT, name_of(name)))
+        Happening::Create(client, name) => Event::Call(client, create_of(Gfid::ROOT, name)),
+        Happening::Lookup(client, name) => Event::Call(client, lookup_of(name)),
+        Happening::CreateIn(client, directory, name) => {
+            Event::Call(client, create_of(directory, name))
         }
         Happening::Step(client) => Event::Step(client),
     })
 }
 
-/// The name of the call of this number.
-fn name_in(lines: &[Told], number: u64) -> u8 {
+/// The directory and the name of the call of this number.
+fn slot_in(lines: &[Told], number: u64) -> (Gfid, Name) {
+    let mut slot = (Gfid::ROOT, name_of(0));
     for told in lines {
-        match told {
-            Told::Create(call, _, name) | Told::Lookup(call, _, name) => {
-                if *call == number {
-                    return *name;
-                }
+        match *told {
+            Told::Create(call, _, name) | Told::Lookup(call, _, name) if call == number => {
+                slot = (Gfid::ROOT, name_of(name));
+            }
+            Told::CreateIn(call, _, directory, name) if call == number => {
+                slot = (directory, name_of(name));
             }
             _ => {}
         }
     }
-    0
+    slot
 }
 
-/// What a brick noted of its step lines. Each entry is of the name of its call.
+/// What a brick noted of its step lines. Each entry is of the slot of its call.
 fn journal_of(alloc: Global, lines: &[Told], brick: u16) -> Result<Vec<JournalEntry>, AllocError> {
     let mut entries = Vec::new(alloc);
     for told in lines {
         match *told {
             Told::Step(call, client, at, request, reply) => {
                 if at == brick {
+                    let (gfid, name) = slot_in(lines, call);
                     entries.push(JournalEntry {
                         client: ClientNo(client),
                         call: CallNo(call),
                         request,
-                        gfid: Gfid::ROOT,
-                        name: name_of(name_in(lines, call)),
+                        gfid,
+                        name,
                         reply,
                     })?;
                 }

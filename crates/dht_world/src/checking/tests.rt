@@ -1,14 +1,14 @@
 //! The definitions accept transcripts that are right, and forbid what is wrong at its line.
 
 use super::right::{
-    CREATE_THEN_LOOKUP, CREATE_THEN_LOOKUP_OF_ANOTHER, CREATE_TWICE, CREATE_WITHOUT_MEMORY,
-    LOOKUP_AT_FIRST, REFUSED_AMONG, TWO_CLIENTS, WEIGHTS,
+    CREATE_NOWHERE, CREATE_THEN_LOOKUP, CREATE_THEN_LOOKUP_OF_ANOTHER, CREATE_TWICE,
+    CREATE_WITHOUT_MEMORY, LOOKUP_AT_FIRST, REFUSED_AMONG, TWO_CLIENTS, WEIGHTS,
 };
 use super::samples::{Edit, Happening, Sample, Told, changed, make_trial};
 use super::wrong::{
     STILL_RIGHT, STILL_RIGHT_OF_TWO, WRONG_ANSWERS, WRONG_HEADS, WRONG_JOURNALS,
-    WRONG_LOOKUP_OF_ANOTHER, WRONG_OF_TWO, WRONG_REFUSALS, WRONG_SECOND_CREATE, WRONG_TREE_LINES,
-    WRONG_WITHOUT_MEMORY, Wrong,
+    WRONG_LOOKUP_OF_ANOTHER, WRONG_NOWHERE, WRONG_OF_TWO, WRONG_REFUSALS, WRONG_SECOND_CREATE,
+    WRONG_TREE_LINES, WRONG_WITHOUT_MEMORY, Wrong,
 };
 use super::{Rule, first_wrong};
 use dht_types::lines::{ReplyKind, RequestKind};
@@ -39,6 +39,7 @@ fn what_is_right_is_accepted(rt: HostRuntime) -> Result<(), Fail> {
         REFUSED_AMONG,
         LOOKUP_AT_FIRST,
         CREATE_WITHOUT_MEMORY,
+        CREATE_NOWHERE,
         TWO_CLIENTS,
     ];
     for (index, sample) in samples.iter().enumerate() {
@@ -95,6 +96,7 @@ fn wrong_lines_of_calls_that_fail_are_refused(rt: HostRuntime) -> Result<(), Fai
         &WRONG_LOOKUP_OF_ANOTHER,
     )?;
     forbids(&rt, alloc, &CREATE_WITHOUT_MEMORY, &WRONG_WITHOUT_MEMORY)?;
+    forbids(&rt, alloc, &CREATE_NOWHERE, &WRONG_NOWHERE)?;
     Ok(())
 }
 

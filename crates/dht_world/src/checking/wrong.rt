@@ -1,7 +1,7 @@
 //! Changes of transcripts that make them wrong, and some that leave them right.
 
 use super::Rule;
-use super::right::{FILE, WEIGHTS};
+use super::right::{FILE, NOWHERE, WEIGHTS};
 use super::samples::Change::{Add, Drop as Leave, Put};
 use super::samples::Edit::{Both, Journals, Lines};
 use super::samples::{Edit, Told};
@@ -62,7 +62,7 @@ pub const STILL_RIGHT: [(&str, &[Edit]); 4] = [
 ];
 
 /// Changes of the create and the lookup: tree lines.
-pub const WRONG_TREE_LINES: [Wrong; 14] = [
+pub const WRONG_TREE_LINES: [Wrong; 15] = [
     ("left out", &[Lines(Leave(8))], 8, Rule::Legal),
     (
         "a line below its place",
@@ -143,10 +143,16 @@ pub const WRONG_TREE_LINES: [Wrong; 14] = [
         8,
         Rule::Legal,
     ),
+    (
+        "in another directory",
+        &[Lines(Put(8, Told::TreeIn(1, NOWHERE, b'a', FILE)))],
+        8,
+        Rule::Legal,
+    ),
 ];
 
 /// Changes of the create and the lookup: answers.
-pub const WRONG_ANSWERS: [Wrong; 16] = [
+pub const WRONG_ANSWERS: [Wrong; 17] = [
     (
         "made, at the line above the tree line",
         &[Lines(Put(11, Told::Answer(1, 0, Some(7), MADE)))],
@@ -246,10 +252,16 @@ pub const WRONG_ANSWERS: [Wrong; 16] = [
         14,
         Rule::Legal,
     ),
+    (
+        "no name, at a line yet to come",
+        &[Lines(Put(14, Told::Answer(2, 0, Some(20), ENOENT)))],
+        14,
+        Rule::Legal,
+    ),
 ];
 
 /// Changes of the create and the lookup: the lines of events.
-pub const WRONG_HEADS: [Wrong; 20] = [
+pub const WRONG_HEADS: [Wrong; 21] = [
     ("no volume line", &[Lines(Leave(1))], 1, Rule::Events),
     (
         "other weights",
@@ -355,10 +367,16 @@ pub const WRONG_HEADS: [Wrong; 20] = [
         15,
         Rule::Legal,
     ),
+    (
+        "a call between a request and its tree line",
+        &[Lines(Add(8, Told::Lookup(2, 1, b'a')))],
+        8,
+        Rule::Legal,
+    ),
 ];
 
 /// Changes of the create and the lookup: the journals.
-pub const WRONG_JOURNALS: [Wrong; 12] = [
+pub const WRONG_JOURNALS: [Wrong; 13] = [
     (
         "an entry is missing",
         &[Journals(Leave(4))],
@@ -431,6 +449,12 @@ pub const WRONG_JOURNALS: [Wrong; 12] = [
     (
         "a tree line at another slot",
         &[Journals(Put(2, Told::Create(1, 0, b'b')))],
+        8,
+        Rule::Journals,
+    ),
+    (
+        "a tree line in another directory",
+        &[Journals(Put(2, Told::CreateIn(1, 0, NOWHERE, b'a')))],
         8,
         Rule::Journals,
     ),
@@ -552,6 +576,31 @@ pub const WRONG_WITHOUT_MEMORY: [Wrong; 3] = [
     ),
 ];
 
+/// Changes of the create in a directory that is none.
+pub const WRONG_NOWHERE: [Wrong; 3] = [
+    (
+        "no name, where no directory is",
+        &[Lines(Put(4, Told::Answer(1, 0, Some(3), ENOENT)))],
+        4,
+        Rule::Legal,
+    ),
+    (
+        "the create of another directory",
+        &[Lines(Put(2, Told::Create(1, 0, b'a')))],
+        2,
+        Rule::Events,
+    ),
+    (
+        "a tree step where no directory is",
+        &[
+            Both(Put(3, Told::Step(1, 0, 0, Create, Carried))),
+            Lines(Put(4, Told::TreeIn(1, NOWHERE, b'a', FILE))),
+        ],
+        4,
+        Rule::Legal,
+    ),
+];
+
 /// Changes of the two clients that leave them right: a lookup may answer of any line of its call.
 pub const STILL_RIGHT_OF_TWO: [(&str, &[Edit]); 2] = [
     (
@@ -565,7 +614,7 @@ pub const STILL_RIGHT_OF_TWO: [(&str, &[Edit]); 2] = [
 ];
 
 /// Changes of the two clients.
-pub const WRONG_OF_TWO: [Wrong; 7] = [
+pub const WRONG_OF_TWO: [Wrong; 8] = [
     (
         "found, before it was made",
         &[Lines(Put(12, Told::Answer(2, 1, Some(9), FOUND)))],
@@ -610,5 +659,11 @@ pub const WRONG_OF_TWO: [Wrong; 7] = [
         &[Both(Put(11, Told::Step(1, 0, 0, Look, Carried)))],
         11,
         Rule::Events,
+    ),
+    (
+        "an answer between a request and its tree line",
+        &[Lines(Add(10, Told::Answer(2, 1, Some(9), ENOENT)))],
+        10,
+        Rule::Legal,
     ),
 ];
