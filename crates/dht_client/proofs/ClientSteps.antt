@@ -1,5 +1,5 @@
 -- The first and the further steps of a client.
-use Rattle.std.proofs.Common.{◌≡◌, ◌<◌, ◌≤◌, ◌+◌, ◌^◌, ℕ, List, [], length, refl, sym, ◌∙◌, ap, subst, arith, Bool, true, false}
+use Rattle.std.proofs.Common.{◌≡◌, ◌<◌, ◌≤◌, ◌+◌, ◌^◌, ℕ, List, [], length, refl, sym, ap, subst, arith, Bool, true, false}
 use Rattle.std.specs.Prelude.{Option, Some, None, is_some, nat_lt, if◌then◌else◌}
 use Rattle.dht_types.specs.Cost.{cost}
 use Rattle.dht_types.specs.Gfid.{root}

@@ -13,14 +13,12 @@ use Rattle.dht_section.specs.declared.section.Location.{Location}
 use Rattle.dht_section.specs.declared.section.Section.{Section}
 use Rattle.dht_section.specs.declared.closing.Closing.{Closing}
 use Rattle.dht_types.specs.declared.identifiers.BrickNo.{BrickNo}
-use Rattle.dht_types.specs.declared.locks.Key.{Key}
 use Rattle.dht_xattr.specs.declared.range.Range.{Range}
 use Rattle.dht_section.proofs.SectionSteps.{fresh_moved}
 use Rattle.dht_section.specs.Section.{IsFresh}
 use Rattle.dht_section.specs.declared.section.Section.TheVariants.{LockingDirectory}
 use Rattle.dht_client.specs.Layout.{holder_in}
-use Rattle.dht_client.specs.Lookup.{IsLookup, Seeks, Surveys, aimed_at, aimed, surveyed, lookup_asks, lookup_left, lookup_locks, lookup_starved, LookupKnows, SecuresLookup}
-use Rattle.dht_client.specs.declared.lookup.Sought.{Sought}
+use Rattle.dht_client.specs.Lookup.{IsLookup, Surveys, aimed_at, aimed, surveyed, lookup_asks, lookup_left, lookup_locks, lookup_starved, LookupKnows, SecuresLookup}
 use Rattle.dht_client.specs.declared.lookup.LookupCall.{LookupCall}
 use Rattle.dht_client.specs.declared.lookup.LookupCall.TheVariants.{Surveying, LookingAtHolder, Securing, Ending}
 

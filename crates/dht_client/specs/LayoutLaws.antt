@@ -1,12 +1,11 @@
 -- Each name has a holder.
-use Rattle.std.proofs.Common.{◌≡◌, ◌<◌, ℕ, List, length, sym, ◌∙◌, ap, arith}
+use Rattle.std.proofs.Common.{◌≡◌, ◌<◌, ℕ, List, ◌∙◌, ap, arith}
 use Rattle.std.specs.Prelude.{Some}
 use Rattle.dht_types.specs.Gfid.{Entry, root}
 use Rattle.dht_types.specs.declared.identifiers.Gfid.{Gfid}
 use Rattle.dht_hash.specs.DaviesMeyer.{dm}
 use Rattle.dht_hash.specs.DaviesMeyerLaws.{dm_below}
 use Rattle.dht_xattr.specs.Layout.{holder}
-use Rattle.dht_xattr.specs.Plan.{planned}
 use Rattle.dht_xattr.specs.PlanLaws.{planned_holder}
 use Rattle.dht_section.specs.Scene.{Scene, Sound, layout_of, holder_of}
 

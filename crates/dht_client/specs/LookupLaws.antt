@@ -1,5 +1,5 @@
 -- The laws of a lookup as a machine.
-use Rattle.std.proofs.Common.{◌<◌, ℕ, ◌∙◌, ap, arith}
+use Rattle.std.proofs.Common.{◌<◌, ◌∙◌, ap, arith}
 use Rattle.dht_types.specs.Story.{Running}
 use Rattle.dht_section.specs.Scene.{Scene, Sound, Permitted, Others}
 use Rattle.dht_section.specs.SectionLaws.{bricks_are, section_permitted, section_stable, fresh_stable}

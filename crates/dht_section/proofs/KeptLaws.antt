@@ -24,7 +24,7 @@ use Rattle.dht_brick.specs.declared.requests.Given.TheVariants.{Nothing}
 use Rattle.dht_brick.specs.declared.requests.Why.TheVariants.{Slot as BadSlot}
 use Rattle.dht_brick.specs.declared.requests.Reply.{Reply}
 use Rattle.dht_brick.specs.declared.requests.Reply.TheVariants.{Ok as Carried, Refused as Declined, NoMemory}
-use Rattle.dht_section.specs.Scene.{Disk, Stands, Kept, NameTruth, FileTruth, slot_at, file_at, range_of, range_at, layout_of, holder_of, Placed, step_of, Changes}
+use Rattle.dht_section.specs.Scene.{Disk, Stands, Kept, NameTruth, FileTruth, slot_at, file_at, range_of, layout_of, holder_of, Placed, step_of, Changes}
 use Rattle.dht_section.specs.SectionLaws.{layout_same}
 use Rattle.dht_section.proofs.ContentsLaws.{slot_at_new, slot_off_new, file_at_new, file_off_new, new_file}
 

@@ -20,7 +20,7 @@ use Rattle.dht_brick.specs.declared.requests.Reply.{Reply}
 use Rattle.dht_brick.specs.declared.machines.Ask.{Ask}
 use Rattle.dht_xattr.specs.declared.range.Range.{Range}
 use Rattle.dht_section.specs.Replies.{is_no_memory, main_shown, range_shown}
-use Rattle.dht_section.specs.Scene.{Disk, slot_at, range_of, range_at, ranges_below, layout_of, NameTruth, Scene, Sound, Moved}
+use Rattle.dht_section.specs.Scene.{Disk, slot_at, range_of, range_at, ranges_below, NameTruth, Scene, Sound, Moved}
 use Rattle.dht_section.specs.Section.{entry_at, directory_key, name_key, lock_brick, section_asks, section_left, section_locks, section_location, section_stopped, stopped_location, stopped_locks, LocksBy, SectionKnows, seen, nothing_seen, found_then, lengthened, Truth, node_of, HasPlace, IsFresh, Locked, LockingKnows, LookingKnows, SawAt, HoldsName}
 use Rattle.dht_section.specs.SectionLaws.{bricks_are, lock_brick_is, truth_kept, below_same}
 use Rattle.dht_section.proofs.SceneLaws.{IsQuiet, row_reply, slot_moved, ranges_moved, lock_moved, lock_taken, deeds_quiet}

@@ -1,6 +1,6 @@
 -- The laws of the section as a machine.
 use Rattle.std.proofs.Common.{◌≡◌, ◌<◌, ◌≤◌, ℕ, refl, sym, ◌∙◌, ap, subst, arith}
-use Rattle.std.specs.Prelude.{zero, suc, Option, Some, None, List, [], ◌∷◌, ◌++◌, length}
+use Rattle.std.specs.Prelude.{zero, suc, Option, Some, None, [], ◌∷◌, ◌++◌, length}
 use Rattle.std.proofs.lemmas.Bool.Decides.{nat_tests}
 use Rattle.dht_types.specs.Gfid.{Entry, anchor}
 use Rattle.dht_types.specs.Tree.{Tree}
@@ -9,7 +9,6 @@ use Rattle.dht_types.specs.declared.identifiers.Gfid.{Gfid}
 use Rattle.dht_types.specs.declared.locks.Key.{Key}
 use Rattle.dht_types.specs.declared.locks.Mode.{Mode}
 use Rattle.dht_types.specs.declared.locks.Mode.TheVariants.{Shared, Exclusive}
-use Rattle.dht_xattr.specs.declared.range.Range.{Range}
 use Rattle.dht_section.specs.Scene.{Disk, slot_at, lock_at, range_at, ranges_below, layout_of, Scene, Sound, Permitted, Others}
 use Rattle.dht_section.specs.Section.{entry_at, directory_key, name_key, lock_brick, section_asks, SectionKnows, Truth, HasPlace, IsFresh, Locked, SawAt, HoldsName}
 use Rattle.dht_section.specs.declared.section.Location.{Location}

@@ -1,5 +1,4 @@
-use Rattle.std.proofs.Common.{◌∙◌, sym, ap, arith}
-use Rattle.dht_section.specs.Section.{seen}
+use Rattle.std.proofs.Common.{sym, arith}
 use Rattle.dht_section.proofs.SectionSteps.{take_stop, take_stop_locks, take_stop_location, take_directory, take_name, take_look, take_last}
 use Rattle.dht_section.proofs.section.SectionMachine.take.Goals as goal
 
