@@ -1,14 +1,12 @@
 -- How the order of bricks is made, and what weighs how much.
-use Rattle.std.proofs.Common.{◌≡◌, ℕ, zero, suc, ◌+◌, ◌*◌, ◌/◌, ◌<◌, ◌≤◌, List, [], ◌∷◌, ◌++◌, length, get_or, take, drop, set, refl, sym, ap, ◌∙◌, arith, ⊎_elim, All}
+use Rattle.std.proofs.Common.{◌≡◌, ℕ, zero, suc, ◌+◌, ◌<◌, ◌≤◌, List, [], ◌∷◌, ◌++◌, length, take, drop, set, sym, ap, ◌∙◌, arith}
 use Rattle.std.specs.Prelude.{sum, slice_index}
-use Rattle.std.proofs.Math.Nat.{div-le_of_le-mul, mul-le-mul_left}
 use Rattle.std.proofs.Math.Seq.{take-append_seam}
-use Rattle.std.proofs.lemmas.Bool.{cases_lt}
-use Rattle.std.proofs.lemmas.List.{take_more, take_more_set, take_all, length-take-le, get_or_past}
-use Rattle.std.proofs.lemmas.List.Sums.{sum_by-le, sum_by_more_le}
+use Rattle.std.proofs.lemmas.List.{take_more, take_more_set, take_all, length-take-le}
+use Rattle.std.proofs.lemmas.List.Sums.{sum_by-le}
 use Rattle.dht_types.specs.declared.identifiers.Gfid.{Gfid}
 use Rattle.dht_types.specs.Volume.{VolumeInfo, IsVolume}
-use Rattle.dht_xattr.specs.Plan.{heavy_from, turn, rotated, order, share}
+use Rattle.dht_xattr.specs.Plan.{heavy_from, turn, rotated, order}
 use Rattle.dht_xattr.specs.OrderLaws.{heavy_positive, length-rotated, turn_fits}
 
 -- a brick more, of weight 0 or above
@@ -61,18 +59,6 @@ sum_light v good =
     let weighed = good.weighed in
     let most = sum_by-le (λ x. x) 1000 v.weights good.light in
     omega arith
-
--- a brick weighs at most what all do
-pub weight_in_sum : (ws : List ℕ) (b : ℕ) → slice_index ws b ≤ sum ws
-weight_in_sum ws b = ⊎_elim
-    (λ inside. let part = sum_by_more_le (λ x. x) ws b 0 inside in omega arith)
-    (λ outside. let none = get_or_past ws b 0 outside in omega arith)
-    (cases_lt b (length ws))
-
-pub share_fits : (ws : List ℕ) (b : ℕ) → share ws b ≤ 4294967295
-share_fits ws b =
-    let part : 4294967295 * slice_index ws b ≤ sum ws * 4294967295 = let most = mul-le-mul_left 4294967295 (weight_in_sum ws b) in omega arith in
-    div-le_of_le-mul (sum ws) part
 
 -- the bricks in front are turned
 pub order_is : (ws bricks front : List ℕ) (dir : Gfid) (n : ℕ) → n ≤ length bricks → 0 < n → take n bricks ≡ heavy_from 0 ws

@@ -1,13 +1,14 @@
 -- How a plan is made, from one place of the order to the next.
-use Rattle.std.proofs.Common.{◌≡◌, ◌≢◌, ℕ, ◌+◌, ◌<◌, ◌≤◌, ◌==◌, true, false, nat_lt, if◌then◌else◌, List, length, get_or, take, set, refl, sym, ap, ◌∙◌, arith, ⊎_elim}
+use Rattle.std.proofs.Common.{◌≡◌, ◌≢◌, ℕ, ◌+◌, ◌<◌, ◌≤◌, ◌==◌, nat_lt, if◌then◌else◌, List, length, get_or, take, set, refl, sym, ap, ◌∙◌, arith, ⊎_elim}
 use Rattle.std.specs.Prelude.{Option, Some, None, position, slice_index, replicate}
 use Rattle.std.proofs.lemmas.Bool.{cases_lt, cases_eq, lt-ltb, le-ltb, eqb-true, cond-true, cond-false}
 use Rattle.std.proofs.lemmas.List.{same_lists, length-set, length-take-le, get_or-take, get_or-set_same, get_or-set_other, get_or-replicate}
 use Rattle.std.proofs.lemmas.List.Quantifiers.{position-Some}
 use Rattle.dht_types.specs.declared.identifiers.Gfid.{Gfid}
+use Rattle.dht_types.specs.Volume.{VolumeInfo, IsVolume}
 use Rattle.dht_xattr.specs.declared.range.Range.{Range}
-use Rattle.dht_xattr.specs.OrderLaws.{AreApart, order_apart}
-use Rattle.dht_xattr.specs.Plan.{HasWeight, order, share, start, rest_from, run_of, range_at, range_of, planned}
+use Rattle.dht_xattr.specs.OrderLaws.{AreApart, order_within}
+use Rattle.dht_xattr.specs.Plan.{order, share, start, rest_from, run_of, range_at, range_of, planned}
 use Rattle.dht_xattr.specs.PlanLaws.{start_more, start_below, place_is, planned_length, planned_at}
 
 -- the range of a brick, where the places before p have theirs
@@ -79,16 +80,29 @@ AreDealt-planned ws dir p n ranges bricks room all dealt_so =
 pub order_size : (os bricks : List ℕ) (n : ℕ) → take n bricks ≡ os → n ≤ length bricks → length os ≡ n
 order_size os bricks n same few = ap length (sym same) ∙ length-take-le n bricks few
 
--- the brick at a place of the order
-pub brick_at : (os bricks : List ℕ) (n p : ℕ) → take n bricks ≡ os → n ≤ length bricks → p < n → (length os ≡ n) × (slice_index os p ≡ slice_index bricks p)
-brick_at os bricks n p same few h =
-    (order_size os bricks n same few, ap (λ (xs : List ℕ). slice_index xs p) (sym same) ∙ get_or-take n bricks p 0 h)
+-- what is known at a place of the order: its brick, and the first hash of the place behind it
+pub record Step (v : VolumeInfo) (dir : Gfid) (bricks : List ℕ) (n p first count : ℕ) : Type 0 where
+  pub size : length (order v.weights dir) ≡ n
+  pub brick : slice_index (order v.weights dir) p ≡ slice_index bricks p
+  pub small : slice_index bricks p < 32
+  pub share : count ≡ share v.weights (slice_index (order v.weights dir) p)
+  pub next : first + count ≡ start v.weights (order v.weights dir) (p + 1)
+  pub most : first + count ≤ 4294967295
 
--- what goes to a place is left
-pub count_fits : (ws : List ℕ) (dir : Gfid) (p b : ℕ) → HasWeight ws → p < length (order ws dir) → slice_index (order ws dir) p ≡ b
-    → (start ws (order ws dir) p + share ws b ≡ start ws (order ws dir) (p + 1)) × (start ws (order ws dir) (p + 1) ≤ 4294967295)
-count_fits ws dir p b heavy place brick =
-    (ap (λ (c : ℕ). start ws (order ws dir) p + share ws c) (sym brick) ∙ sym (start_more ws (order ws dir) p place), start_below ws dir (p + 1) heavy)
+pub step_at : (v : VolumeInfo) (dir : Gfid) (bricks : List ℕ) (n p first count : ℕ) → IsVolume v → take n bricks ≡ order v.weights dir → n ≤ length bricks → p < n
+    → first ≡ start v.weights (order v.weights dir) p → count ≡ share v.weights (slice_index bricks p) → Step v dir bricks n p first count
+step_at v dir bricks n p first count good same few place begin part =
+    let os = order v.weights dir in
+    let size : length os ≡ n = order_size os bricks n same few in
+    let brick : slice_index os p ≡ slice_index bricks p = ap (λ (xs : List ℕ). slice_index xs p) (sym same) ∙ get_or-take n bricks p 0 place in
+    let inside = order_within v.weights dir p 0 (omega arith) in
+    let volume = good.few in
+    let weighed = good.weighed in
+    let count_is : count ≡ share v.weights (slice_index os p) = part ∙ ap (share v.weights) (sym brick) in
+    let more = start_more v.weights os p (omega arith) in
+    let below = start_below v.weights dir (p + 1) good.heavy in
+    let next : first + count ≡ start v.weights os (p + 1) = ap (λ (f : ℕ). f + count) begin ∙ ap (λ (k : ℕ). start v.weights os p + k) count_is ∙ sym more in
+    record { size = size; brick = brick; small = omega arith; share = count_is; next = next; most = omega arith }
 
 -- the range that goes to a place is that of the plan
 pub next_range : (ws os : List ℕ) (p n first count : ℕ) (range : Option Range) → length os ≡ n → first ≡ start ws os p → count ≡ share ws (slice_index os p)

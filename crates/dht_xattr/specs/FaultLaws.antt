@@ -1,31 +1,14 @@
--- Where a layout has a fault, it shows at the ends of its ranges.
-use Rattle.std.proofs.Common.{◌≡◌, ℕ, ◌+◌, ◌<◌, ◌≤◌, ◌^◌, ◌==◌, Bool, true, false, ◌&&◌, ◌||◌, nat_lt, nat_le, List, length, get_or, suc, zero, ◌↔◌, true≢false, refl, sym, ap, ◌∙◌, arith, ⊎_elim}
+-- A layout has a fault exactly where one shows at the ends of its ranges.
+use Rattle.std.proofs.Common.{◌≡◌, ℕ, ◌+◌, ◌<◌, ◌≤◌, ◌^◌, ◌==◌, Bool, true, false, nat_lt, nat_le, List, length, get_or, suc, zero, ◌↔◌, true≢false, refl, sym, ap, ◌∙◌, arith, ⊎_elim}
 use Rattle.std.specs.Prelude.{Option, Some, None}
 use Rattle.std.specs.List.{list_any}
-use Rattle.std.proofs.lemmas.Bool.{cases_lt, cases_Bool, and_parts, and_from, or_cases, or_parts, leb-true, le-leb, ltb-true, lt-ltb, eqb-true, eq-eqb, eqb-false, true_from_ne_false}
+use Rattle.std.proofs.lemmas.Bool.{cases_lt, and_parts, and_from, or_cases, or_parts, leb-true, le-leb, ltb-true, lt-ltb, eqb-true, eq-eqb, eqb-false, true_from_ne_false}
 use Rattle.std.proofs.lemmas.List.Folds.{list_any_at, Any-from_list_any}
 use Rattle.dht_xattr.specs.declared.range.Range.{Range}
 use Rattle.dht_xattr.specs.Range.{contains}
 use Rattle.dht_xattr.specs.Layout.{HasHole, HasOverlap, covers}
+use Rattle.dht_xattr.specs.Faults.{is_open_behind, is_shared_at_first, has_hole, has_overlap}
 use Rattle.dht_xattr.specs.LayoutLaws.{counted, counted_two, count_some, count_two}
-
--- whether there is a hash behind a range, and it is in none of these ranges
-abbrev pub is_open_behind : List (Option Range) → Option Range → Bool
-is_open_behind ranges None = false
-is_open_behind ranges (Some r) = nat_lt r.last 4294967295 && (covers ranges (r.last + 1) == 0)
-
--- whether the first of a range is a hash, and in two of these ranges
-abbrev pub is_shared_at_first : List (Option Range) → Option Range → Bool
-is_shared_at_first ranges None = false
-is_shared_at_first ranges (Some r) = nat_lt r.first 4294967296 && nat_le 2 (covers ranges r.first)
-
--- whether hash 0, or the one behind some range, is in no range
-abbrev pub has_hole : List (Option Range) → Bool
-has_hole ranges = (covers ranges 0 == 0) || list_any (is_open_behind ranges) ranges
-
--- whether the first hash of some range is in two ranges
-abbrev pub has_overlap : List (Option Range) → Bool
-has_overlap ranges = list_any (is_shared_at_first ranges) ranges
 
 some_at : (ranges : List (Option Range)) (test : Option Range → Bool) (k : ℕ) (o : Option Range) → k < length ranges → get_or ranges k None ≡ o → test o ≡ true → list_any test ranges ≡ true
 some_at ranges test k o within at pass = list_any_at test ranges k None within (ap test at ∙ pass)

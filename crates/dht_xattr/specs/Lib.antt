@@ -2,6 +2,7 @@ pub mod Range
 pub mod RangeLaws
 pub mod Layout
 pub mod LayoutLaws
+pub mod Faults
 pub mod FaultLaws
 pub mod Linkto
 pub mod LinktoLaws

@@ -1,11 +1,11 @@
 -- A linkto value leads to the brick that it was written for, with its zero byte and without.
-use Rattle.std.proofs.Common.{◌≡◌, ◌≢◌, ℕ, ◌+◌, ◌-◌, ◌<◌, ◌≤◌, ◌↔◌, Bool, true, false, true≢false, if◌then◌else◌, List, [], ◌∷◌, ◌++◌, length, get_or, take, drop, refl, sym, ap, subst, ◌∙◌, arith, ⊎_elim}
+use Rattle.std.proofs.Common.{◌≡◌, ℕ, ◌+◌, ◌-◌, ◌<◌, ◌≤◌, ◌↔◌, true, true≢false, List, [], ◌∷◌, ◌++◌, length, get_or, take, drop, refl, sym, ap, subst, ◌∙◌, arith, ⊎_elim}
 use Rattle.std.specs.Prelude.{Option, Some, None, IfSome, IsNone, Contains, option_map, unwrap_or, slice_get, position, nat_lt, nat_le, ◌&&◌}
 use Rattle.std.specs.List.{position_or_len, list_all}
 use Rattle.std.specs.Str.{bytes_eq}
 use Rattle.std.proofs.Common.{length-append}
 use Rattle.std.proofs.Math.Seq.{take-append_seam, drop-append_seam}
-use Rattle.std.proofs.lemmas.Bool.{cases_lt, cases_Bool, and_parts, ltb-true, false_from_ne_true, cond-true, cond-false}
+use Rattle.std.proofs.lemmas.Bool.{cases_lt, and_parts, ltb-true, leb-true, false_from_ne_true, cond-true, cond-false}
 use Rattle.std.proofs.lemmas.Option.{get_or_from_slice_get, slice_get-get_or, slice_get_within}
 use Rattle.std.proofs.lemmas.Slice.Eq.{bytes_eq-Decides}
 use Rattle.std.proofs.lemmas.List.{get_or-drop}
@@ -79,3 +79,14 @@ pub linked_brick-name : (v : VolumeInfo) (b : ℕ) (name : List ℕ) → IsVolum
 linked_brick-name v b name good at =
     let fit : is_brick_name name ≡ true = subst (λ (n : List ℕ). is_brick_name n ≡ true) (get_or_from_slice_get v.names b name [] at) (good.named b [] (slice_get_within v.names b name at)) in
     ap (λ (n : List ℕ). position (λ other. bytes_eq other n) v.names) (without_zero-name name fit) ∙ place_of_name v b name good at
+
+-- a value has at most 65 bytes
+pub linkto_value-short : (v : VolumeInfo) (b : ℕ) → IsVolume v → b < length v.names → length (linkto_value v.names b) ≤ 65
+linkto_value-short v b good inside =
+    let name = get_or v.names b [] in
+    let parts = and_parts (nat_lt 0 (length name) && nat_le (length name) 64) (list_all is_brick_byte name) (good.named b [] inside) in
+    let short = leb-true (length name) 64 (and_parts (nat_lt 0 (length name)) (nat_le (length name) 64) parts.0).1 in
+    let value : linkto_value v.names b ≡ name ++ 0 ∷ [] = ap (λ (o : Option (List ℕ)). unwrap_or o [] ++ 0 ∷ []) (slice_get-get_or v.names b [] inside) in
+    let size : length (linkto_value v.names b) ≡ length (name ++ 0 ∷ []) = ap length value in
+    let whole = length-append name (0 ∷ []) in
+    omega arith

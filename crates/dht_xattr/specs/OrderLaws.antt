@@ -1,5 +1,5 @@
 -- The order in which hashes are dealt out has each brick of weight above 0 once.
-use Rattle.std.proofs.Common.{◌≡◌, ℕ, zero, suc, ◌+◌, ◌-◌, ◌/◌, ◌%◌, ◌^◌, ◌<◌, ◌≤◌, Bool, true, false, if◌then◌else◌, nat_lt, List, [], ◌∷◌, length, get_or, take, drop, refl, sym, ap, ◌∙◌, arith, ⊎_elim}
+use Rattle.std.proofs.Common.{◌≡◌, ℕ, zero, suc, ◌+◌, ◌-◌, ◌/◌, ◌%◌, ◌^◌, ◌<◌, ◌≤◌, Bool, true, false, if◌then◌else◌, nat_lt, List, [], ◌∷◌, length, get_or, take, drop, refl, sym, ap, subst, ◌∙◌, arith, ⊎_elim}
 use Rattle.std.specs.Prelude.{sum, sum_by, slice_index}
 use Rattle.std.proofs.Math.Nat.{mod-lt}
 use Rattle.std.proofs.lemmas.Bool.{cases_lt}
@@ -14,6 +14,15 @@ heavy_within b [] k d h = absurd (omega arith)
 heavy_within b (zero ∷ ws) k d h = let (low, high) = heavy_within (suc b) ws k d h in (omega arith, omega arith)
 heavy_within b (suc w ∷ ws) zero d h = (omega arith, omega arith)
 heavy_within b (suc w ∷ ws) (suc k) d h = let (low, high) = heavy_within (suc b) ws k d (omega arith) in (omega arith, omega arith)
+
+heavy_weighs : (f : ℕ → ℕ) (b : ℕ) (ws : List ℕ) (k d : ℕ) → ((i : ℕ) → i < length ws → f (b + i) ≡ slice_index ws i) → k < length (heavy_from b ws) → 0 < f (get_or (heavy_from b ws) k d)
+heavy_weighs f b [] k d same h = absurd (omega arith)
+heavy_weighs f b (zero ∷ ws) k d same h =
+    heavy_weighs f (suc b) ws k d (λ i l. let place : suc b + i ≡ b + suc i = omega arith in ap f place ∙ same (suc i) (omega arith)) h
+heavy_weighs f b (suc w ∷ ws) zero d same h =
+    let here : f b ≡ suc w = let place : b ≡ b + 0 = omega arith in ap f place ∙ same 0 (omega arith) in omega arith
+heavy_weighs f b (suc w ∷ ws) (suc k) d same h =
+    heavy_weighs f (suc b) ws k d (λ i l. let place : suc b + i ≡ b + suc i = omega arith in ap f place ∙ same (suc i) (omega arith)) (omega arith)
 
 heavy_rising : (b : ℕ) (ws : List ℕ) (i j d : ℕ) → i < j → j < length (heavy_from b ws) → get_or (heavy_from b ws) i d < get_or (heavy_from b ws) j d
 heavy_rising b [] i j d before h = absurd (omega arith)
@@ -122,6 +131,17 @@ order_within ws dir k d h =
     let (inside, at) = seam_is (turn dir (length bricks)) bricks k d fits (omega arith) in
     let (low, high) = heavy_within 0 ws (seam (turn dir (length bricks)) bricks k) d inside in
     omega arith
+
+-- each brick of the order has weight
+pub order_weighs : (ws : List ℕ) (dir : Gfid) (k d : ℕ) → k < length (order ws dir) → 0 < slice_index ws (get_or (order ws dir) k d)
+unfolding order
+order_weighs ws dir k d h =
+    let bricks = heavy_from 0 ws in
+    let size = length-rotated (turn dir (length bricks)) bricks (turn_fits dir (length bricks)) in
+    let fits = turn_fits dir (length bricks) (omega arith) in
+    let (inside, at) = seam_is (turn dir (length bricks)) bricks k d fits (omega arith) in
+    let weighs = heavy_weighs (slice_index ws) 0 ws (seam (turn dir (length bricks)) bricks k) d (λ i l. let place : 0 + i ≡ i = omega arith in ap (slice_index ws) place) inside in
+    subst (λ (b : ℕ). 0 < slice_index ws b) (sym at) weighs
 
 pub order_some : (ws : List ℕ) (dir : Gfid) → HasWeight ws → 0 < length (order ws dir)
 unfolding order

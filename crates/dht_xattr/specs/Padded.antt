@@ -1,9 +1,7 @@
 -- Ranges at the front of a place of 32, with none behind them.
 use Rattle.std.specs.Prelude.{ℕ, ◌≡◌, ◌-◌, ◌≤◌, Option, None, List, ◌++◌, length, take, drop, replicate}
 use Rattle.std.proofs.Common.{sym, ap, ◌∙◌, arith}
-use Rattle.std.proofs.lemmas.List.{take-append-drop, length-take-le, length-replicate}
-use Rattle.std.proofs.Common.{length-append}
-use Rattle.std.proofs.Math.Seq.{take-append_seam, drop-append_seam}
+use Rattle.std.proofs.lemmas.List.{take-append-drop, length-take-le}
 use Rattle.dht_xattr.specs.declared.range.Range.{Range}
 
 -- the first n of 32 places count, and the others have no range
@@ -23,14 +21,3 @@ pub places_back : (n : ℕ) (places : List (Option Range)) → IsPadded n places
 places_back n places h =
     ap (λ m. take n places ++ replicate (32 - m) None) (length_back n places h)
     ∙ (ap (λ rest. take n places ++ rest) (sym h.empty) ∙ take-append-drop n places)
-
--- to pad is to pad
-pub padded_is : (ranges : List (Option Range)) → length ranges ≤ 32 → IsPadded (length ranges) (padded ranges)
-padded_is ranges h = record {
-  size = omega (arith, length-append ranges (replicate (32 - length ranges) None), length-replicate {A = Option Range} (32 - length ranges) None);
-  short = h;
-  empty = drop-append_seam ranges (replicate (32 - length ranges) None);
-}
-
-pub padded_front : (ranges : List (Option Range)) → take (length ranges) (padded ranges) ≡ ranges
-padded_front ranges = take-append_seam ranges (replicate (32 - length ranges) None)

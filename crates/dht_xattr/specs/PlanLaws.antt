@@ -1,9 +1,10 @@
 -- The plan of a directory has each hash in exactly one range.
 use Rattle.std.proofs.Common.{◌≡◌, ℕ, zero, suc, ◌+◌, ◌*◌, ◌^◌, ◌<◌, ◌≤◌, ◌==◌, true, true≢false, nat_le, List, [], ◌∷◌, length, get_or, take, refl, sym, ap, subst, ◌∙◌, arith, ⊎_elim, All}
-use Rattle.std.specs.Prelude.{Option, Some, None, IfSome, sum, sum_by, position, slice_index}
+use Rattle.std.specs.Prelude.{Option, Some, None, IfSome, sum, sum_by, position, slice_index, slice_get}
 use Rattle.std.specs.List.{position_or_len}
 use Rattle.std.proofs.Math.Nat.{mul-div-le, mul-le-mul_left, le_of_mul-le-mul_left}
 use Rattle.std.proofs.lemmas.Bool.{cases_lt, cases_Bool, and_parts, and_from, leb-true, le-leb, eqb-true, eqb-false, eq-eqb, cond-true, cond-false, cond_both}
+use Rattle.std.proofs.lemmas.Option.{slice_get-get_or}
 use Rattle.std.proofs.lemmas.List.{take-take}
 use Rattle.std.proofs.lemmas.List.Sums.{sum_by-cons, sum_by_more, sum_by_more_le, sum_by-take-le}
 use Rattle.std.proofs.lemmas.List.Quantifiers.{position-Some}
@@ -12,7 +13,7 @@ use Rattle.dht_xattr.specs.declared.range.Range.{Range}
 use Rattle.dht_xattr.specs.Range.{contains}
 use Rattle.dht_xattr.specs.Layout.{holder, covers}
 use Rattle.dht_xattr.specs.LayoutLaws.{count_one, first_place, holder_some}
-use Rattle.dht_xattr.specs.OrderLaws.{AreApart, order_apart, order_within, order_some, order_sum}
+use Rattle.dht_xattr.specs.OrderLaws.{AreApart, order_apart, order_within, order_weighs, order_some, order_sum}
 use Rattle.dht_xattr.specs.Plan.{HasWeight, IsPlanned, order, share, start, rest_from, run_of, range_at, range_of, ranges_from, planned}
 
 length_ranges : (ws os : List ℕ) (b n : ℕ) → length (ranges_from ws os b n) ≡ n
@@ -224,3 +225,18 @@ planned_valid ws dir heavy k d h =
     let size = planned_length ws dir in
     subst (λ (o : Option Range). IfSome o IsPlanned) (sym (planned_at ws dir k d (omega arith)))
     (range_valid ws dir k (position (λ c. c == k) (order ws dir)) heavy refl)
+
+light_none : (ws : List ℕ) (dir : Gfid) (b : ℕ) (o : Option ℕ) → slice_index ws b ≡ 0 → position (λ c. c == b) (order ws dir) ≡ o → range_of ws (order ws dir) o ≡ None
+light_none ws dir b None weightless at = refl
+light_none ws dir b (Some p) weightless at =
+    let (within, pass, before) = position-Some (λ c. c == b) (order ws dir) p 0 at in
+    let same : slice_index (order ws dir) p ≡ b = eqb-true _ _ pass in
+    let weighs : 0 < slice_index ws b = subst (λ (c : ℕ). 0 < slice_index ws c) same (order_weighs ws dir p 0 within) in
+    absurd (omega arith)
+
+-- a brick of weight 0 has no range
+pub planned_light : (ws : List ℕ) (dir : Gfid) (b : ℕ) → b < length ws → slice_index ws b ≡ 0 → slice_get (planned ws dir) b ≡ Some None
+planned_light ws dir b inside weightless =
+    let size = planned_length ws dir in
+    slice_get-get_or (planned ws dir) b None (omega arith)
+    ∙ ap Some (planned_at ws dir b None inside ∙ light_none ws dir b (position (λ c. c == b) (order ws dir)) weightless refl)

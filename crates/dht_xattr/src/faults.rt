@@ -3,7 +3,7 @@
 ghost use Rattle.std.specs.Prelude.{◌≡◌, ◌↔◌, IsTrue};
 ghost use Rattle.std.specs.List.{list_any};
 ghost use Rattle.dht_xattr.specs.Layout.{HasHole, HasOverlap, covers};
-ghost use Rattle.dht_xattr.specs.FaultLaws.{is_open_behind, is_shared_at_first, has_hole, has_overlap};
+ghost use Rattle.dht_xattr.specs.Faults.{is_open_behind, is_shared_at_first, has_hole, has_overlap};
 
 use super::layout::{Faults, Layout, is_in};
 use super::range::Range;

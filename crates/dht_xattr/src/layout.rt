@@ -90,7 +90,7 @@ impl Layout {
 }
 
 /// Whether a hash is in a range; it is in none where there is no range.
-pub fn is_in(range: &Option<Range>, hash: u32) -> bool
+pub(crate) fn is_in(range: &Option<Range>, hash: u32) -> bool
     ensures { result ≡ contains range.now hash }
 {
     match range {

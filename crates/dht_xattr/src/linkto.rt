@@ -1,6 +1,6 @@
 //! The value of a linkto file: the name of the brick that has the file.
 
-ghost use Rattle.std.specs.Prelude.{◌≡◌, ◌<◌, ◌↔◌, Some, IfOk, IfSome, IsNone, Contains, ℕ, List, length, option_map, slice_get};
+ghost use Rattle.std.specs.Prelude.{◌≡◌, ◌<◌, ◌≤◌, ◌↔◌, Some, IfOk, IfSome, IsNone, Contains, ℕ, List, length, option_map, slice_get};
 ghost use Rattle.dht_types.specs.Volume.{VolumeInfo, IsVolume};
 ghost use Rattle.dht_xattr.specs.Linkto.{linkto_value, linked_brick, without_zero};
 
@@ -40,9 +40,10 @@ pub fn linkto_brick(volume: &Volume, value: &[u8]) -> Option<BrickNo>
     volume.number(without_zero(value))
 }
 
-/// A linkto value leads to the brick that it was written for, also where its zero byte was taken off:
-/// these are laws for callers, and do nothing.
+/// A linkto value leads to the brick that it was written for, also where its zero byte was taken off,
+/// and has at most 65 bytes: these are laws for callers, and do nothing.
 pub fn a_linkto_leads_to_its_brick()
     ensures written { (v : VolumeInfo) (b : ℕ) → IsVolume v → b < length v.names → linked_brick v.names (linkto_value v.names b) ≡ Some b }
+    ensures short { (v : VolumeInfo) (b : ℕ) → IsVolume v → b < length v.names → length (linkto_value v.names b) ≤ 65 }
     ensures name { (v : VolumeInfo) (b : ℕ) (name : List ℕ) → IsVolume v → slice_get v.names b ≡ Some name → linked_brick v.names name ≡ Some b }
 {}

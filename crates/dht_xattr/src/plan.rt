@@ -1,6 +1,6 @@
 //! How the hashes of a directory are shared among the bricks of a volume.
 
-ghost use Rattle.std.specs.Prelude.{◌≡◌, ◌+◌, ◌<◌, ◌≤◌, ◌^◌, ℕ, List, if◌then◌else◌, All, IfSome, Some, length, sum, take, slice_index};
+ghost use Rattle.std.specs.Prelude.{◌≡◌, ◌+◌, ◌<◌, ◌≤◌, ◌^◌, ℕ, List, if◌then◌else◌, All, IfSome, Some, length, sum, None, take, slice_get, slice_index};
 ghost use Rattle.dht_types.specs.declared.identifiers.Gfid.{Gfid};
 ghost use Rattle.dht_xattr.specs.Layout.{holder, covers};
 ghost use Rattle.dht_xattr.specs.Plan.{HasWeight, IsPlanned, heavy_from, order, share, rest_from, run_of, planned};
@@ -132,10 +132,12 @@ pub fn plan(volume: &Volume, dir: Gfid) -> Layout
     Layout::new(&ranges[..bricks])
 }
 
-/// A plan has a range or none for each brick, no range of it is empty, and each hash is in exactly
-/// one of them, so that it has a holder: these are laws for callers, and do nothing.
+/// A plan has a range or none for each brick, and none where its weight is 0; no range of it is empty;
+/// and each hash is in exactly one of them, so that it has a holder. These are laws for callers, and
+/// do nothing.
 pub fn a_plan_has_each_hash_once()
     ensures length { (weights : List ℕ) (dir : Gfid) → length (planned weights dir) ≡ length weights }
+    ensures light { (weights : List ℕ) (dir : Gfid) (b : ℕ) → b < length weights → slice_index weights b ≡ 0 → slice_get (planned weights dir) b ≡ Some None }
     ensures valid { (weights : List ℕ) (dir : Gfid) → HasWeight weights → All (λ range. IfSome range IsPlanned) (planned weights dir) }
     ensures once { (weights : List ℕ) (dir : Gfid) (hash : ℕ) → HasWeight weights → hash < 2 ^ 32 → covers (planned weights dir) hash ≡ 1 }
     ensures holder { (weights : List ℕ) (dir : Gfid) (hash : ℕ) → HasWeight weights → hash < 2 ^ 32

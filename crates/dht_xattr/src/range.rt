@@ -51,6 +51,7 @@ pub fn encode(range: Range) -> [u8; 16]
 /// where the first hash is above the last.
 pub fn decode(value: &[u8]) -> Option<Range>
     ensures decoded { result ≡ decoded value.now }
+    ensures range { IfSome result IsRange }
     ensures some { IfSome result (λ r. value.now ≡ encoded r) }
     ensures none { IfNone result ((r : Range) → IsRange r → value.now ≢ encoded r) }
 {

@@ -1,7 +1,6 @@
-use Rattle.std.proofs.Common.{◌≡◌, List, true, subst, sym, ap, ◌∙◌}
-use Rattle.std.specs.Prelude.{Option}
-use Rattle.dht_xattr.specs.declared.range.Range.{Range}
-use Rattle.dht_xattr.specs.FaultLaws.{has_hole, has_overlap, has_hole_is, has_overlap_is}
+use Rattle.std.proofs.Common.{◌≡◌, sym, ap, ◌∙◌}
+use Rattle.dht_xattr.specs.Faults.{has_hole, has_overlap}
+use Rattle.dht_xattr.specs.FaultLaws.{has_hole_is, has_overlap_is}
 use Rattle.dht_xattr.proofs.faults.faults.Goals as goal
 
 pub returns-clause-holes : goal.returns-clause-holes

@@ -1,4 +1,4 @@
-use Rattle.std.proofs.Common.{◌≡◌, ℕ, List, ap, sym, subst, ◌∙◌}
+use Rattle.std.proofs.Common.{◌≡◌, List, ap, sym, subst, ◌∙◌}
 use Rattle.std.specs.Prelude.{Option, Some, None, IfNone}
 use Rattle.dht_types.specs.declared.identifiers.BrickNo.{BrickNo}
 use Rattle.dht_xattr.specs.declared.range.Range.{Range}

@@ -1,8 +1,11 @@
-use Rattle.dht_xattr.specs.PlanLaws.{planned_length, planned_valid, planned_once, planned_holder}
+use Rattle.dht_xattr.specs.PlanLaws.{planned_length, planned_light, planned_valid, planned_once, planned_holder}
 use Rattle.dht_xattr.proofs.plan.a_plan_has_each_hash_once.Goals as goal
 
 pub returns-clause-length : goal.returns-clause-length
 returns-clause-length c = planned_length
+
+pub returns-clause-light : goal.returns-clause-light
+returns-clause-light c = planned_light
 
 pub returns-clause-valid : goal.returns-clause-valid
 returns-clause-valid c = planned_valid

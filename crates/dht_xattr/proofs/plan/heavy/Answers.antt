@@ -1,5 +1,4 @@
-use Rattle.std.proofs.Common.{◌≡◌, ◌+◌, ◌<◌, ℕ, List, length, take, set, arith, ap, ◌∙◌}
-use Rattle.std.specs.Prelude.{slice_index}
+use Rattle.std.proofs.Common.{◌<◌, length, arith, ◌∙◌}
 use Rattle.std.proofs.lemmas.List.{length-set}
 use Rattle.dht_xattr.proofs.OrderLemmas.{heavy_more_no, heavy_more_yes, heavy_count}
 use Rattle.dht_xattr.proofs.plan.heavy.Goals as goal

@@ -1,5 +1,4 @@
-use Rattle.std.proofs.Common.{◌<◌, length, arith}
-use Rattle.std.specs.Prelude.{sum}
+use Rattle.std.proofs.Common.{arith}
 use Rattle.std.proofs.lemmas.List.Sums.{sum_by_more_le}
 use Rattle.dht_xattr.proofs.OrderLemmas.{sum_light}
 use Rattle.dht_xattr.proofs.plan.total_weight.Goals as goal
