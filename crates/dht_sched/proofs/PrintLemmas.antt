@@ -3,12 +3,13 @@ use Rattle.std.proofs.Common.{◌≡◌, ℕ, ◌+◌, ◌<◌, ◌≤◌, ◌/�
 use Rattle.std.specs.List.{flat_map}
 use Rattle.std.proofs.lemmas.List.{take_more, take_all, append-nil}
 use Rattle.std.proofs.lemmas.List.Concat.{flat_map-append}
-use Rattle.dht_types.specs.Text.{hex_digit, hex_bytes}
+use Rattle.dht_types.specs.Text.{hex_digit, hex_bytes, hex_number}
 use Rattle.dht_types.specs.declared.lines.Line.{Line}
 use Rattle.dht_types.specs.declared.lines.DumpLine.{DumpLine}
 use Rattle.dht_sched.specs.Transcript.{line_text, lines_text, dump_text, dump_lines_text}
 use Rattle.dht_sched.specs.Printing.{behind_spaces}
-use Rattle.dht_sched.specs.Spelling.{spaced}
+use Rattle.dht_sched.specs.Spelling.{spaced, spelled}
+use Rattle.dht_sched.specs.Commands.{hash_line}
 
 -- a part behind a text that was printed
 pub part_behind : (old mid new a : List ℕ) → mid ≡ old ++ a → (part : List ℕ) × (new ≡ mid ++ part) → (part : List ℕ) × (new ≡ old ++ part)
@@ -50,3 +51,10 @@ lines_text-push lines line = flat_map-append line_text lines (line ∷ []) ∙ a
 pub dump_lines_text-push : (lines : List DumpLine) (line : DumpLine) → dump_lines_text (lines ++ line ∷ []) ≡ dump_lines_text lines ++ dump_text line
 unfolding dump_lines_text
 dump_lines_text-push lines line = flat_map-append dump_text lines (line ∷ []) ∙ ap (λ text. flat_map dump_text lines ++ text) (append-nil (dump_text line))
+
+-- a hash and a name
+pub hash_done : (hash : ℕ) (name old begun mid out new digits : List ℕ) → begun ≡ old ++ digits → digits ≡ hex_number 8 hash → mid ≡ begun ++ 32 ∷ [] → out ≡ mid ++ spelled name → new ≡ out ++ 10 ∷ [] → new ≡ old ++ hash_line hash name
+unfolding hash_line
+hash_done hash name old begun mid out new digits first are space spelling newline =
+    newline ∙ (ap (λ o. o ++ 10 ∷ []) (spelling ∙ (ap (λ m. m ++ spelled name) (space ∙ (ap (λ b. b ++ 32 ∷ []) (first ∙ ap (λ ds. old ++ ds) are)))))
+    ∙ simp append_assoc)

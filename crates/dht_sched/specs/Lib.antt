@@ -3,3 +3,4 @@ pub mod Reading
 pub mod Schedule
 pub mod Transcript
 pub mod Printing
+pub mod Commands

@@ -107,7 +107,7 @@ fn push_name_word(out: &mut Vec<u8>, name: &Name) -> Result<(), AllocError>
     ensures { Appends out.old.items out.new.items result (32 ∷ spelled name.now) }
 {
     out.push(b' ')?;
-    push_name(out, name)
+    push_name(out, name.as_bytes())
 }
 
 /// Appends the words of a field, each behind a space.

@@ -2,6 +2,7 @@
 //! of each event and of each line.
 #![tactic(auto)]
 
+mod commands;
 mod fault;
 mod fields;
 mod names;
@@ -9,8 +10,9 @@ mod schedule;
 mod transcript;
 mod words;
 
+pub use commands::{print_hash, print_range};
 pub use fault::LineFault;
-pub use schedule::{one_line, read_line};
+pub use schedule::{one_line, read_line, read_weight};
 pub use transcript::{lines_follow, print_dump_line, print_line, print_malformed, print_usage};
 
 #[cfg(test)]

@@ -30,11 +30,10 @@ fn push_byte(out: &mut Vec<u8>, byte: u8) -> Result<(), AllocError>
     out.extend_from_slice(&[b'%', high, low])
 }
 
-/// Appends the spelling of a name.
-pub fn push_name(out: &mut Vec<u8>, name: &Name) -> Result<(), AllocError>
-    ensures { Appends out.old.items out.new.items result (spelled name.now) }
+/// Appends the spelling of a name of these bytes.
+pub fn push_name(out: &mut Vec<u8>, bytes: &[u8]) -> Result<(), AllocError>
+    ensures { Appends out.old.items out.new.items result (spelled bytes.now) }
 {
-    let bytes = name.as_bytes();
     if bytes.is_empty() {
         return out.extend_from_slice(b"%-");
     }

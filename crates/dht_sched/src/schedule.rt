@@ -60,8 +60,9 @@ fn read_step(mut words: Words<'_>) -> Option<Event>
     Some(Event::Step(client))
 }
 
-/// The weight of a word.
-fn read_weight(word: &[u8]) -> Option<u16>
+/// The weight that a word spells in decimal, with no sign and no zero in front. There is none where
+/// the word is no number, or one above the greatest weight.
+pub fn read_weight(word: &[u8]) -> Option<u16>
     ensures { Reads decimal (λ weight. weight ≤ 1000) word.now result }
 {
     let weight = number(word)?;
