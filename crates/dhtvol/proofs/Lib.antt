@@ -1,3 +1,4 @@
+pub mod CommandLaws
 pub mod EventLaws
 pub mod FinishLaws
 pub mod GoOnLaws

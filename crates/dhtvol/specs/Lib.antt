@@ -1,4 +1,5 @@
 pub mod Buffer
+pub mod Commands
 pub mod Lines
 pub mod Memory
 pub mod NextEvent

@@ -1,11 +1,33 @@
--- The words of the program, and what it does for them.
-use Rattle.std.specs.Prelude.{ℕ, ◌≡◌, ◌⊎◌, Option, List, [], ◌∷◌, codes, length, take}
-use Rattle.dht_sched.specs.Transcript.{usage_text}
-use Rattle.dhtvol.specs.Outside.{after_told}
+-- The words of the program: which words are which command.
+use Rattle.std.specs.Prelude.{ℕ, ◌≡◌, ◌≢◌, ◌==◌, ◌⊎◌, Bool, false, Option, None, List, [], ◌∷◌, codes, decimal, map}
+use Rattle.std.specs.List.{list_any}
+use Rattle.dht_types.specs.Volume.{replay_fault_of}
+use Rattle.dhtvol.specs.declared.words.Command.{Command}
+use Rattle.dhtvol.specs.declared.words.Command.TheVariants.{Replay, Hash}
 
 -- the words are the command `replay`
 abbrev pub IsReplay : List (List ℕ) → Type 0
 IsReplay words = words ≡ codes "replay" ∷ []
+
+-- a word begins with `-`
+abbrev pub begins_with_dash : List ℕ → Bool
+begins_with_dash [] = false
+begins_with_dash (b ∷ bs) = b == 45
+
+-- the words are the command `hash` and names, at least one, of which none begins with `-`
+pub record IsHash (words names : List (List ℕ)) : Type 0 where
+  pub are : words ≡ codes "hash" ∷ names
+  pub some : names ≢ []
+  pub no_dash : list_any begins_with_dash names ≡ false
+
+-- the words are a command
+abbrev pub IsCommand : List (List ℕ) → Type 0
+IsCommand words = IsReplay words ⊎ ((names : List (List ℕ)) × IsHash words names)
+
+-- the words ask for this
+abbrev pub AskFor : List (List ℕ) → Command → Type 0
+AskFor words Replay = IsReplay words
+AskFor words (Hash names) = IsHash words names.now
 
 -- a status of the program
 abbrev pub IsStatus : ℕ → Type 0

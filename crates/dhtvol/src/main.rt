@@ -1,6 +1,7 @@
 //! dhtvol: a distributed file volume that spreads whole files over bricks by name.
 #![tactic(auto)]
 
+pub mod commands;
 pub mod ending;
 pub mod events;
 pub mod faults;

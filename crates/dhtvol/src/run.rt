@@ -15,10 +15,13 @@ ghost use Rattle.dhtvol.specs.declared.lines.TheConstants.{INPUT_LIMIT};
 ghost use Rattle.dhtvol.specs.Lines.{Reader, input_of, HasNoNewline};
 ghost use Rattle.dhtvol.specs.NextEvent.{CutsEvent};
 ghost use Rattle.dhtvol.specs.Outside.{HasFault, after_told, IsAtEnd};
-ghost use Rattle.dhtvol.specs.Program.{IsReplay, IsStatus};
+ghost use Rattle.dhtvol.specs.Commands.{hash_text, IsPrinted};
+ghost use Rattle.dhtvol.specs.Program.{IsReplay, IsHash, IsCommand, IsStatus};
 ghost use Rattle.dhtvol.specs.Replay.{EndsAs, IsMalformed, IsDone, StopsAtLine, StopsAtSource, IsCutShort, IsSchedule, schedule_of};
 ghost use Rattle.dhtvol.specs.SoFar.{SoFar, EndsSo};
+ghost use Rattle.dhtvol.specs.Status.{status_of};
 
+use crate::commands::print_hashes;
 use crate::ending::Ending;
 use crate::events::next_event;
 use crate::lines::LineReader;
@@ -26,7 +29,7 @@ use crate::output::write_all;
 use crate::replay::{play, write_malformed};
 use crate::sink::Sink;
 use crate::source::Source;
-use crate::words::{Word, is_replay};
+use crate::words::{Command, Word};
 use dht_brick::plain::PlainBrick;
 use dht_client::client::Client;
 use dht_sched::{one_line, print_usage};
@@ -181,12 +184,39 @@ fn refuse<K: Sink>(alloc: Global, sink: &mut K) -> Ending
     }
 }
 
+/// Does what the words say, over this source and this sink, and says how that ended.
+fn carry_out<S: Source, K: Sink>(
+    alloc: Global,
+    words: &[Word],
+    source: &mut S,
+    sink: &mut K,
+    shelf: &mut Shelf,
+) -> Ending
+    requires empty { shelf.old.mem.items ≡ [] }
+    ensures replay { IsReplay words.now → EndsAs plain_contents plain_journal shelf.new.mem.items (S.left source.old) (S.left source.new) (K.taken sink.old) (K.taken sink.new) result }
+    ensures hash { (names : List (List ℕ)) → IsHash words.now names → IsPrinted (hash_text names) (K.taken sink.old) (K.taken sink.new) (status_of result) }
+    ensures unread { ¬ IsReplay words.now → source.new ≡ source.old }
+    ensures unused { ¬ IsReplay words.now → shelf.new.mem.items ≡ [] }
+    ensures usage { result ≡ Ending.Usage → (¬ IsCommand words.now) × (K.taken sink.new ≡ after_told (K.taken sink.old) usage_text) }
+    ensures no_command { ¬ IsCommand words.now → (result ≡ Ending.Usage) ⊎ ((result ≡ Ending.SinkFailed) ⊎ (result ≡ Ending.OutOfMemory)) }
+    ensures usage_front { ¬ IsCommand words.now → (n : ℕ) × (K.taken sink.new ≡ after_told (K.taken sink.old) (take n usage_text)) }
+    ensures source { result ≡ Ending.SourceFailed → HasFault (S.faults source.old) (S.faults source.new) }
+    ensures sink { result ≡ Ending.SinkFailed → HasFault (K.faults sink.old) (K.faults sink.new) }
+{
+    match Command::of(words) {
+        Some(Command::Replay) => replay(alloc, source, sink, shelf),
+        Some(Command::Hash(names)) => print_hashes(alloc, names, sink),
+        None => refuse(alloc, sink),
+    }
+}
+
 /// Does what the words say, over this source and this sink, and gives the program's status. For the
 /// word `replay` it replays the schedule that the source gives, over new bricks that stand on the
-/// shelf afterwards.
+/// shelf afterwards. For `hash` and names it prints the hash of each name.
 ///
-/// Status 0: the source's text was carried out whole. 2: the words are no command. 3: a line that is
-/// none was reached. 4: the source failed. 5: the sink failed. 6: memory ran out.
+/// Status 0: the source's text was carried out whole, or all was printed. 2: the words are no
+/// command. 3: a line that is none was reached. 4: the source failed. 5: the sink failed. 6: memory
+/// ran out.
 pub fn run<S: Source, K: Sink>(
     alloc: Global,
     words: &[Word],
@@ -205,22 +235,22 @@ pub fn run<S: Source, K: Sink>(
     // A text that is a schedule's whole is not refused.
     ensures complete { IsReplay words.now → (events : List AnEvent) → events ≢ [] → IsSchedule events → length (schedule_of events) ≤ INPUT_LIMIT → S.left source.old ≡ Some (schedule_of events) → result ≢ 3 }
 
+    // The other commands print, and leave the source and the shelf as they are.
+    ensures hash { (names : List (List ℕ)) → IsHash words.now names → IsPrinted (hash_text names) (K.taken sink.old) (K.taken sink.new) result }
+    ensures unread { ¬ IsReplay words.now → source.new ≡ source.old }
+    ensures unused { ¬ IsReplay words.now → shelf.new.mem.items ≡ [] }
+
     // The causes of the statuses.
     ensures status { IsStatus result }
-    ensures usage { result ≡ 2 → ¬ IsReplay words.now }
-    ensures no_command { ¬ IsReplay words.now → (result ≡ 2) ⊎ ((result ≡ 5) ⊎ (result ≡ 6)) }
+    ensures usage { result ≡ 2 → ¬ IsCommand words.now }
+    ensures no_command { ¬ IsCommand words.now → (result ≡ 2) ⊎ ((result ≡ 5) ⊎ (result ≡ 6)) }
     ensures usage_written { result ≡ 2 → K.taken sink.new ≡ after_told (K.taken sink.old) usage_text }
-    ensures usage_front { ¬ IsReplay words.now → (n : ℕ) × (K.taken sink.new ≡ after_told (K.taken sink.old) (take n usage_text)) }
+    ensures usage_front { ¬ IsCommand words.now → (n : ℕ) × (K.taken sink.new ≡ after_told (K.taken sink.old) (take n usage_text)) }
     ensures source_cause { result ≡ 4 → HasFault (S.faults source.old) (S.faults source.new) }
     ensures sink_cause { result ≡ 5 → HasFault (K.faults sink.old) (K.faults sink.new) }
 {
     one_line();
-    let ending = if is_replay(words) {
-        replay(alloc, source, sink, shelf)
-    } else {
-        refuse(alloc, sink)
-    };
-    ending.status()
+    carry_out(alloc, words, source, sink, shelf).status()
 }
 
 #[cfg(test)]

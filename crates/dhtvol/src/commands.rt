@@ -1,0 +1,51 @@
+//! The commands that print something and read nothing.
+
+ghost use Rattle.std.specs.Prelude.{◌≡◌, IfOk};
+ghost use Rattle.dhtvol.specs.Commands.{hash_text, IsPrinted};
+ghost use Rattle.dhtvol.specs.Outside.{HasFault};
+ghost use Rattle.dhtvol.specs.Status.{status_of};
+
+use crate::ending::Ending;
+use crate::output::write_all;
+use crate::sink::Sink;
+use crate::words::Word;
+use dht_hash::dm_hash;
+use dht_sched::print_hash;
+use std::alloc::{AllocError, Global};
+
+/// Writes a text, all of it or a front of it.
+fn write_text<K: Sink>(sink: &mut K, text: &[u8]) -> Ending
+    ensures printed { IsPrinted text.now (K.taken sink.old) (K.taken sink.new) (status_of result) }
+    ensures sink { result ≡ Ending.SinkFailed → HasFault (K.faults sink.old) (K.faults sink.new) }
+{
+    match write_all(sink, text) {
+        Ok(()) => Ending::Done,
+        Err(_) => Ending::SinkFailed,
+    }
+}
+
+/// The hash of each name, a line each.
+fn hashes(alloc: Global, names: &[Word]) -> Result<Vec<u8>, AllocError>
+    ensures { IfOk result (λ text. text.items ≡ hash_text names.now) }
+{
+    let mut text = Vec::new(alloc);
+    for name in names {
+        let bytes = name.as_bytes();
+        print_hash(dm_hash(bytes), bytes, &mut text)?;
+    }
+    Ok(text)
+}
+
+/// Prints the hash of each name, a line each.
+pub fn print_hashes<K: Sink>(alloc: Global, names: &[Word], sink: &mut K) -> Ending
+    ensures printed { IsPrinted (hash_text names.now) (K.taken sink.old) (K.taken sink.new) (status_of result) }
+    ensures sink { result ≡ Ending.SinkFailed → HasFault (K.faults sink.old) (K.faults sink.new) }
+{
+    match hashes(alloc, names) {
+        Ok(text) => write_text(sink, &text),
+        Err(_) => Ending::OutOfMemory,
+    }
+}
+
+#[cfg(test)]
+mod tests;
