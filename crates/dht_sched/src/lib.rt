@@ -12,7 +12,7 @@ mod words;
 
 pub use commands::{print_hash, print_range};
 pub use fault::LineFault;
-pub use schedule::{one_line, read_line, read_weight};
+pub use schedule::{is_volume, one_line, read_line, read_weight};
 pub use transcript::{lines_follow, print_dump_line, print_line, print_malformed, print_usage};
 
 #[cfg(test)]

@@ -87,7 +87,7 @@ fn read_weights(alloc: Global, words: Words<'_>) -> Result<Weights, LineFault>
 }
 
 /// Whether a volume may have these weights, of which none is too heavy.
-fn is_volume(weights: &[u16]) -> bool
+pub fn is_volume(weights: &[u16]) -> bool
     ensures { IsTrue result ↔ ((1 ≤ length weights.now) × (length weights.now ≤ 32) × HasWeight weights.now) }
 {
     let bricks = weights.len();

@@ -1,9 +1,9 @@
 -- The words of the program: which words are which command.
-use Rattle.std.specs.Prelude.{ℕ, ◌≡◌, ◌≢◌, ◌==◌, ◌⊎◌, Bool, false, Option, None, List, [], ◌∷◌, codes, decimal, map}
+use Rattle.std.specs.Prelude.{ℕ, ◌≡◌, ◌≢◌, ◌==◌, ◌⊎◌, Bool, false, List, [], ◌∷◌, codes, decimal, map}
 use Rattle.std.specs.List.{list_any}
-use Rattle.dht_types.specs.Volume.{replay_fault_of}
+use Rattle.dht_sched.specs.Schedule.{IsScheduledVolume}
 use Rattle.dhtvol.specs.declared.words.Command.{Command}
-use Rattle.dhtvol.specs.declared.words.Command.TheVariants.{Replay, Hash}
+use Rattle.dhtvol.specs.declared.words.Command.TheVariants.{Replay, Hash, Layout}
 
 -- the words are the command `replay`
 abbrev pub IsReplay : List (List ℕ) → Type 0
@@ -20,14 +20,20 @@ pub record IsHash (words names : List (List ℕ)) : Type 0 where
   pub some : names ≢ []
   pub no_dash : list_any begins_with_dash names ≡ false
 
+-- the words are the command `layout` and the weights of a volume
+pub record IsLayout (words : List (List ℕ)) (weights : List ℕ) : Type 0 where
+  pub are : words ≡ codes "layout" ∷ map decimal weights
+  pub volume : IsScheduledVolume weights
+
 -- the words are a command
 abbrev pub IsCommand : List (List ℕ) → Type 0
-IsCommand words = IsReplay words ⊎ ((names : List (List ℕ)) × IsHash words names)
+IsCommand words = IsReplay words ⊎ (((names : List (List ℕ)) × IsHash words names) ⊎ ((weights : List ℕ) × IsLayout words weights))
 
 -- the words ask for this
 abbrev pub AskFor : List (List ℕ) → Command → Type 0
 AskFor words Replay = IsReplay words
 AskFor words (Hash names) = IsHash words names.now
+AskFor words (Layout weights) = IsLayout words weights
 
 -- a status of the program
 abbrev pub IsStatus : ℕ → Type 0

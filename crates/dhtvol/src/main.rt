@@ -5,6 +5,7 @@ pub mod commands;
 pub mod ending;
 pub mod events;
 pub mod faults;
+pub mod layouts;
 pub mod lines;
 pub mod output;
 pub mod printing;

@@ -9,21 +9,22 @@ ghost use Rattle.dht_sched.specs.Schedule.{IsScheduledVolume};
 ghost use Rattle.dht_sched.specs.Transcript.{usage_text};
 ghost use Rattle.dht_types.specs.Gfid.{root};
 ghost use Rattle.dht_xattr.specs.Plan.{IsPlanned, planned};
-ghost use Rattle.dht_world.specs.Bricks.{disk_of, journals_of, value_of, AreNewborn};
+ghost use Rattle.dht_world.specs.Bricks.{disk_of, journals_of, AreNewborn};
 ghost use Rattle.dht_world.specs.Places.{IsAt};
 ghost use Rattle.dhtvol.specs.declared.lines.TheConstants.{INPUT_LIMIT};
 ghost use Rattle.dhtvol.specs.Lines.{Reader, input_of, HasNoNewline};
 ghost use Rattle.dhtvol.specs.NextEvent.{CutsEvent};
 ghost use Rattle.dhtvol.specs.Outside.{HasFault, after_told, IsAtEnd};
-ghost use Rattle.dhtvol.specs.Commands.{hash_text, IsPrinted};
-ghost use Rattle.dhtvol.specs.Program.{IsReplay, IsHash, IsCommand, IsStatus};
+ghost use Rattle.dhtvol.specs.Commands.{hash_text, layout_text, IsPrinted};
+ghost use Rattle.dhtvol.specs.Program.{IsReplay, IsHash, IsLayout, IsCommand, IsStatus};
 ghost use Rattle.dhtvol.specs.Replay.{EndsAs, IsMalformed, IsDone, StopsAtLine, StopsAtSource, IsCutShort, IsSchedule, schedule_of};
 ghost use Rattle.dhtvol.specs.SoFar.{SoFar, EndsSo};
 ghost use Rattle.dhtvol.specs.Status.{status_of};
 
-use crate::commands::print_hashes;
+use crate::commands::{print_hashes, print_layout};
 use crate::ending::Ending;
 use crate::events::next_event;
+use crate::layouts::{root_layout, value_of};
 use crate::lines::LineReader;
 use crate::output::write_all;
 use crate::replay::{play, write_malformed};
@@ -34,13 +35,10 @@ use dht_brick::plain::PlainBrick;
 use dht_client::client::Client;
 use dht_sched::{one_line, print_usage};
 use dht_types::events::Event;
-use dht_types::identifiers::{ClientNo, Gfid};
-use dht_types::lines::LayoutValue;
-use dht_types::volumes::{Volume, Weights};
+use dht_types::identifiers::ClientNo;
+use dht_types::volumes::Weights;
 use dht_world::world::World;
 use dht_xattr::layout::Layout;
-use dht_xattr::plan::plan;
-use dht_xattr::range::{Range, encode};
 use std::alloc::{AllocError, Global};
 
 /// Where the bricks of a replay stand afterwards.
@@ -48,17 +46,6 @@ use std::alloc::{AllocError, Global};
 pub struct Shelf {
     /// Bricks in memory.
     pub mem: Vec<PlainBrick>,
-}
-
-/// The attribute that says a range, where there is one.
-fn value_of(range: &Option<Range>) -> Option<LayoutValue>
-    requires { IfSome range.now IsPlanned }
-    ensures { result ≡ value_of range.now }
-{
-    match range {
-        Some(range) => Some(LayoutValue(encode(*range))),
-        None => None,
-    }
 }
 
 /// New bricks, one for each range of this layout: each has the root with its range.
@@ -81,10 +68,10 @@ fn bricks_of(alloc: Global, weights: &Weights) -> Result<Vec<PlainBrick>, Ending
     ensures newborn { IfOk result (λ v. AreNewborn weights.now (disk_of plain_contents v.items) (journals_of plain_journal v.items)) }
     ensures memory { OnErr result (result ≡ Err Ending.OutOfMemory) }
 {
-    let Ok(volume) = Volume::replay(alloc, weights, 1) else {
+    let Ok(layout) = root_layout(alloc, weights) else {
         return Err(Ending::OutOfMemory);
     };
-    match new_bricks(alloc, &plan(&volume, Gfid::ROOT)) {
+    match new_bricks(alloc, &layout) {
         Ok(bricks) => Ok(bricks),
         Err(_) => Err(Ending::OutOfMemory),
     }
@@ -195,6 +182,7 @@ fn carry_out<S: Source, K: Sink>(
     requires empty { shelf.old.mem.items ≡ [] }
     ensures replay { IsReplay words.now → EndsAs plain_contents plain_journal shelf.new.mem.items (S.left source.old) (S.left source.new) (K.taken sink.old) (K.taken sink.new) result }
     ensures hash { (names : List (List ℕ)) → IsHash words.now names → IsPrinted (hash_text names) (K.taken sink.old) (K.taken sink.new) (status_of result) }
+    ensures layout { (weights : List ℕ) → IsLayout words.now weights → IsPrinted (layout_text weights) (K.taken sink.old) (K.taken sink.new) (status_of result) }
     ensures unread { ¬ IsReplay words.now → source.new ≡ source.old }
     ensures unused { ¬ IsReplay words.now → shelf.new.mem.items ≡ [] }
     ensures usage { result ≡ Ending.Usage → (¬ IsCommand words.now) × (K.taken sink.new ≡ after_told (K.taken sink.old) usage_text) }
@@ -203,16 +191,19 @@ fn carry_out<S: Source, K: Sink>(
     ensures source { result ≡ Ending.SourceFailed → HasFault (S.faults source.old) (S.faults source.new) }
     ensures sink { result ≡ Ending.SinkFailed → HasFault (K.faults sink.old) (K.faults sink.new) }
 {
-    match Command::of(words) {
-        Some(Command::Replay) => replay(alloc, source, sink, shelf),
-        Some(Command::Hash(names)) => print_hashes(alloc, names, sink),
-        None => refuse(alloc, sink),
+    match Command::of(alloc, words) {
+        Ok(Some(Command::Replay)) => replay(alloc, source, sink, shelf),
+        Ok(Some(Command::Hash(names))) => print_hashes(alloc, names, sink),
+        Ok(Some(Command::Layout(weights))) => print_layout(alloc, &weights, sink),
+        Ok(None) => refuse(alloc, sink),
+        Err(_) => Ending::OutOfMemory,
     }
 }
 
 /// Does what the words say, over this source and this sink, and gives the program's status. For the
 /// word `replay` it replays the schedule that the source gives, over new bricks that stand on the
-/// shelf afterwards. For `hash` and names it prints the hash of each name.
+/// shelf afterwards. For `hash` and names it prints the hash of each name, and for `layout` and
+/// weights the planned range of each brick for the root directory of a volume of these weights.
 ///
 /// Status 0: the source's text was carried out whole, or all was printed. 2: the words are no
 /// command. 3: a line that is none was reached. 4: the source failed. 5: the sink failed. 6: memory
@@ -237,6 +228,7 @@ pub fn run<S: Source, K: Sink>(
 
     // The other commands print, and leave the source and the shelf as they are.
     ensures hash { (names : List (List ℕ)) → IsHash words.now names → IsPrinted (hash_text names) (K.taken sink.old) (K.taken sink.new) result }
+    ensures layout { (weights : List ℕ) → IsLayout words.now weights → IsPrinted (layout_text weights) (K.taken sink.old) (K.taken sink.new) result }
     ensures unread { ¬ IsReplay words.now → source.new ≡ source.old }
     ensures unused { ¬ IsReplay words.now → shelf.new.mem.items ≡ [] }
 

@@ -1,9 +1,11 @@
 //! The words of the command line.
 
-ghost use Rattle.std.specs.Prelude.{◌≡◌, ◌∷◌, codes, IfOk, IfSome, IfNone};
+ghost use Rattle.std.specs.Prelude.{ℕ, ◌≡◌, ◌≢◌, ◌≤◌, List, ◌∷◌, All, map, codes, decimal, Ok, None, IfOk, IfSome, IfNone};
 ghost use Rattle.std.specs.List.{list_any};
 ghost use Rattle.dhtvol.specs.Program.{IsCommand, AskFor, begins_with_dash};
 
+use dht_sched::{is_volume, read_weight};
+use dht_types::volumes::Weights;
 use std::alloc::{AllocError, Global};
 use std::marker::Model;
 
@@ -40,12 +42,14 @@ impl Word {
 }
 
 /// What the words of the command line ask for.
-#[derive(Clone, Copy)]
+#[derive(Drop)]
 pub enum Command<'a> {
     /// To replay the schedule that the source gives.
     Replay,
     /// To print the hash of each of these names.
     Hash(&'a [Word]),
+    /// To print the layout of the root directory of a volume of these weights.
+    Layout(Weights),
 }
 
 /// Whether a word begins with `-`.
@@ -84,17 +88,49 @@ fn hash(behind: &[Word]) -> Option<Command<'_>>
     Some(Command::Hash(behind))
 }
 
+/// The weight that each of these words spells, if each spells one.
+fn weights_of(alloc: Global, words: &[Word]) -> Result<Option<Weights>, AllocError>
+    ensures some { IfOk result (λ o. IfSome o (λ weights. (map decimal weights ≡ words.now) × All (λ weight. weight ≤ 1000) weights)) }
+    ensures none { result ≡ Ok None → (weights : List ℕ) → All (λ weight. weight ≤ 1000) weights → map decimal weights ≢ words.now }
+{
+    let mut weights = Vec::new(alloc);
+    for word in words {
+        let Some(weight) = read_weight(word.as_bytes()) else {
+            return Ok(None);
+        };
+        weights.push(weight)?;
+    }
+    Ok(Some(Weights::new(weights)))
+}
+
+/// The command `layout`, by the words behind it.
+fn layout(alloc: Global, behind: &[Word]) -> Result<Option<Command<'_>>, AllocError>
+    ensures some { IfOk result (λ o. IfSome o (AskFor (codes "layout" ∷ behind.now))) }
+    ensures none { result ≡ Ok None → ¬ IsCommand (codes "layout" ∷ behind.now) }
+{
+    let Some(weights) = weights_of(alloc, behind)? else {
+        return Ok(None);
+    };
+    if !is_volume(weights.as_slice()) {
+        return Ok(None);
+    }
+    Ok(Some(Command::Layout(weights)))
+}
+
 impl<'a> Command<'a> {
     /// What these words ask for, if they are a command.
-    pub fn of(words: &'a [Word]) -> Option<Command<'a>>
-        ensures some { IfSome result (AskFor words.now) }
-        ensures none { IfNone result (¬ IsCommand words.now) }
+    pub fn of(alloc: Global, words: &'a [Word]) -> Result<Option<Command<'a>>, AllocError>
+        ensures some { IfOk result (λ o. IfSome o (AskFor words.now)) }
+        ensures none { result ≡ Ok None → ¬ IsCommand words.now }
     {
-        let (first, behind) = words.split_first()?;
+        let Some((first, behind)) = words.split_first() else {
+            return Ok(None);
+        };
         match first.as_bytes() {
-            b"replay" => replay(behind),
-            b"hash" => hash(behind),
-            _ => None,
+            b"replay" => Ok(replay(behind)),
+            b"hash" => Ok(hash(behind)),
+            b"layout" => layout(alloc, behind),
+            _ => Ok(None),
         }
     }
 }

@@ -56,7 +56,7 @@ fn names_of_one_letter_are_hashed(rt: HostRuntime) -> Result<(), Fail> {
 }
 
 /// Words, and what is written of them.
-const PRINTED: [(&[&[u8]], &[u8]); 2] = [
+const PRINTED: [(&[&[u8]], &[u8]); 6] = [
     (&[b"hash", b""], b"884774a2 %-\n"),
     (
         &[
@@ -64,6 +64,22 @@ const PRINTED: [(&[&[u8]], &[u8]); 2] = [
             b"Gr\xc3\xbc\xc3\x9fe \xe4\xb8\x96\xe7\x95\x8c%\xff",
         ],
         b"1b4cb75b Gr%c3%bc%c3%9fe%20%e4%b8%96%e7%95%8c%25%ff\n",
+    ),
+    (
+        &[b"layout", b"1", b"1"],
+        b"0 0000000000000000000000007ffffffe\n1 00000000000000007fffffffffffffff\n",
+    ),
+    (
+        &[b"layout", b"1000"],
+        b"0 000000000000000000000000ffffffff\n",
+    ),
+    (
+        &[b"layout", b"0", b"1", b"1000"],
+        b"0 -\n1 00000000000000000000000000417873\n2 000000000000000000417874ffffffff\n",
+    ),
+    (
+        &[b"layout", b"0", b"7", b"0", b"1000", b"3"],
+        b"0 -\n1 00000000000000000000000001c635bb\n2 -\n3 000000000000000001c635bcff3d56ad\n4 0000000000000000ff3d56aeffffffff\n",
     ),
 ];
 
@@ -97,7 +113,7 @@ fn a_full_sink_has_a_front_of_what_is_printed(rt: HostRuntime) -> Result<(), Fai
 }
 
 /// Words that are no command.
-const FAULTY: [&[&[u8]]; 8] = [
+const FAULTY: [&[&[u8]]; 19] = [
     &[],
     &[b"has", b"a"],
     &[b"hash"],
@@ -106,6 +122,17 @@ const FAULTY: [&[&[u8]]; 8] = [
     &[b"hash", b"a", b"b", b"--"],
     &[b"-hash", b"a"],
     &[b"replay", b"a"],
+    &[b"layout"],
+    &[b"layout", b""],
+    &[b"layout", b"0", b"0"],
+    &[b"layout", b"01"],
+    &[b"layout", b"1001"],
+    &[b"layout", b"18446744073709551617"],
+    &[b"layout", b"+1"],
+    &[b"layout", b"1", b"-1"],
+    &[b"layout", b"1", b"x"],
+    &[b"layout", b"1 1"],
+    &[b"Layout", b"1"],
 ];
 
 #[test]
@@ -116,5 +143,24 @@ fn faulty_words_are_refused(rt: HostRuntime) -> Result<(), Fail> {
         assert_eq!(rt; run_words(alloc, words, &mut sink)?, 2, "at {words:?}");
         assert_eq!(rt; sink.bytes(), USAGE, "at {words:?}");
     }
+    Ok(())
+}
+
+#[test]
+fn a_layout_has_up_to_32_bricks(rt: HostRuntime) -> Result<(), Fail> {
+    let alloc = rt.alloc();
+    let mut words = Vec::new(alloc);
+    words.push(b"layout".as_slice())?;
+    for _ in 0..32 {
+        words.push(b"1".as_slice())?;
+    }
+    let mut sink = MemSink::new(alloc, 2_000, Vec::new(alloc))?;
+    assert_eq!(rt; run_words(alloc, &words, &mut sink)?, 0);
+    let last = b"30 0000000000000000efffffe2f7ffffe0\n31 0000000000000000f7ffffe1ffffffff\n";
+    assert!(rt; sink.bytes().ends_with(last));
+    words.push(b"1".as_slice())?;
+    let mut sink = MemSink::new(alloc, 2_000, Vec::new(alloc))?;
+    assert_eq!(rt; run_words(alloc, &words, &mut sink)?, 2);
+    assert_eq!(rt; sink.bytes(), USAGE);
     Ok(())
 }
