@@ -7,7 +7,6 @@ use Rattle.dht_sched.specs.Commands.{range_line}
 use Rattle.dht_world.specs.Bricks.{value_of}
 use Rattle.dhtvol.specs.Commands.{ranges_text, IsPrinted}
 use Rattle.dhtvol.specs.Outside.{after_told}
-use Rattle.dhtvol.proofs.StartLaws.{took_nothing}
 
 -- one brick more
 ranges_text-push : (n m : ℕ) (ranges : List (Option Range)) (range : Option Range) → m ≡ n + length ranges → ranges_text n (ranges ++ range ∷ []) ≡ ranges_text n ranges ++ range_line m (value_of range)
@@ -28,12 +27,4 @@ printed_whole text before taken told = record {
   ends = inl refl;
   whole = λ zero. told;
   front = (length text, told ∙ ap (after_told before) (sym (take_all (length text) text (omega arith))));
-}
-
--- memory ran out before anything was written
-pub printed_nothing : (text : List ℕ) (told : Option (List ℕ)) → IsPrinted text told told 6
-printed_nothing text told = record {
-  ends = inr (inr refl);
-  whole = λ zero. absurd (omega arith);
-  front = (0, took_nothing told);
 }

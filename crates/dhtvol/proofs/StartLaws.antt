@@ -31,7 +31,7 @@ told_nothing : (x : Option (List ℕ)) → before_told [] x ≡ x
 told_nothing None = refl
 told_nothing (Some xs) = refl
 
-pub took_nothing : (x : Option (List ℕ)) → x ≡ after_told x []
+took_nothing : (x : Option (List ℕ)) → x ≡ after_told x []
 took_nothing None = refl
 took_nothing (Some xs) = ap Some (sym (append-nil xs))
 

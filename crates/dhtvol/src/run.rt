@@ -172,7 +172,7 @@ fn refuse<K: Sink>(alloc: Global, sink: &mut K) -> Ending
 }
 
 /// Does what the words say, over this source and this sink, and says how that ended.
-fn carry_out<S: Source, K: Sink>(
+fn obey<S: Source, K: Sink>(
     alloc: Global,
     words: &[Word],
     source: &mut S,
@@ -242,7 +242,7 @@ pub fn run<S: Source, K: Sink>(
     ensures sink_cause { result ≡ 5 → HasFault (K.faults sink.old) (K.faults sink.new) }
 {
     one_line();
-    carry_out(alloc, words, source, sink, shelf).status()
+    obey(alloc, words, source, sink, shelf).status()
 }
 
 #[cfg(test)]

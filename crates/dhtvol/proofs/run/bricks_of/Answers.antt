@@ -1,15 +1,7 @@
-use Rattle.std.proofs.Common.{◌∙◌, ap, subst, sym, List}
-use Rattle.std.specs.Prelude.{All, IfSome, Option}
+use Rattle.std.proofs.Common.{◌∙◌, ap, length}
 use Rattle.dht_types.specs.Gfid.{root}
-use Rattle.dht_types.specs.Volume.{VolumeInfo}
-use Rattle.dht_xattr.specs.Plan.{IsPlanned, planned}
-use Rattle.dht_xattr.specs.PlanLaws.{planned_valid}
-use Rattle.dht_xattr.specs.declared.range.Range.{Range}
+use Rattle.dht_xattr.specs.PlanLaws.{planned_length}
 use Rattle.dhtvol.proofs.run.bricks_of.Goals as goal
 
-pub new_bricks-requires : goal.new_bricks-requires
-new_bricks-requires c = record {
-  valid = subst (λ (ranges : List (Option Range)). All (λ range. IfSome range IsPlanned) ranges)
-      (sym (c.plan.ensures.planned ∙ ap (λ (v : VolumeInfo). planned v.weights root) c.in-Ok.ensures.volume))
-      (planned_valid c.args.weights.now root c.requires.volume.heavy);
-}
+pub returns-in-Ok-new_bricks-clause-count : goal.returns-in-Ok-new_bricks-clause-count
+returns-in-Ok-new_bricks-clause-count c = c.in-Ok-new_bricks.ensures.count ∙ (ap length c.in-Ok.ensures.planned ∙ planned_length c.args.weights.now root)

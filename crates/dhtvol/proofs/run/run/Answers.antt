@@ -6,5 +6,5 @@ use Rattle.dhtvol.proofs.run.run.Goals as goal
 
 pub returns-clause-complete : goal.returns-clause-complete
 returns-clause-complete g c = λ is_replay events some schedule limit text q.
-    let stops : StopsAtLine plain_contents plain_journal c.carry_out.new.shelf.mem.items (g.S.Source.left c.args.source.now) (g.K.Sink.taken c.args.sink.now) (g.K.Sink.taken c.carry_out.new.sink) = search rules in
-    not_at_line plain_contents plain_journal c.carry_out.new.shelf.mem.items _ _ _ events c.one_line.ensures some schedule limit text stops
+    let stops : StopsAtLine plain_contents plain_journal c.obey.new.shelf.mem.items (g.S.Source.left c.args.source.now) (g.K.Sink.taken c.args.sink.now) (g.K.Sink.taken c.obey.new.sink) = search rules in
+    not_at_line plain_contents plain_journal c.obey.new.shelf.mem.items _ _ _ events c.one_line.ensures some schedule limit text stops
