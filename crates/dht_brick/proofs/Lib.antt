@@ -1,4 +1,9 @@
 pub mod ListLemmas
-pub mod LockLemmas
+pub mod LocalityLaws
+pub mod MapLemmas
 pub mod ResultLemmas
+pub mod RowLaws
+pub mod SavingLaws
+pub mod TableLaws
 pub mod TableLemmas
+pub mod WithinLaws

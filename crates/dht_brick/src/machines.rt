@@ -5,7 +5,7 @@ use dht_types::calls::Answer;
 use dht_types::identifiers::BrickNo;
 
 /// A request to one brick.
-#[derive(Clone, Copy, Debug)]
+#[derive(Debug, Drop)]
 pub struct Ask {
     pub brick: BrickNo,
     pub request: Request,
@@ -28,6 +28,10 @@ pub struct Finish {
 /// Why a program was cut short.
 #[derive(Clone, Copy, Debug)]
 pub enum Stop {
-    /// A brick had no memory for a request.
+    /// A brick was down.
+    Down,
+    /// A brick failed.
+    Failed,
+    /// A brick had no memory for a request, or the program had none.
     NoMemory,
 }

@@ -11,7 +11,7 @@ use Rattle.dht_types.specs.declared.calls.Call.TheVariants.{Lookup, Create}
 use Rattle.dht_xattr.specs.declared.range.Range.{Range}
 use Rattle.dht_brick.specs.declared.requests.NameRequest.TheVariants.{Look}
 use Rattle.dht_brick.specs.declared.requests.Request.TheVariants.{OnNames}
-use Rattle.dht_brick.specs.declared.requests.Reply.{Reply}
+use Rattle.dht_brick.specs.declared.replies.Reply.{Reply}
 use Rattle.dht_section.specs.Scene.{Scene, Moved}
 use Rattle.dht_section.specs.Begins.{Begins, IsInRoot}
 use Rattle.dht_section.specs.Section.{IsFresh, section_asks}

@@ -1,6 +1,6 @@
 -- The steps of a create: within its section, the making of the file, and within its closing.
 use Rattle.std.proofs.Common.{◌≡◌, ◌<◌, ◌≤◌, ◌+◌, ◌*◌, ◌/◌, ◌%◌, ◌^◌, ℕ, List, refl, sym, ◌∙◌, ap, subst, arith, true, false}
-use Rattle.std.specs.Prelude.{Option, Some, None, is_none, unwrap_or, option_map, ◌&&◌, if◌then◌else◌}
+use Rattle.std.specs.Prelude.{Option, Some, None, is_none, unwrap_or, option_map, ◌&&◌}
 use Rattle.std.proofs.lemmas.Nat.{div-mul-add, mod-mul-add}
 use Rattle.dht_types.specs.Gfid.{made, call_of}
 use Rattle.dht_types.specs.Story.{Deeds, Tells, deeds_after}
@@ -11,19 +11,24 @@ use Rattle.dht_types.specs.declared.calls.Call.TheVariants.{Create}
 use Rattle.dht_types.specs.declared.calls.Answer.TheVariants.{Made}
 use Rattle.dht_types.specs.declared.calls.TreeStep.{TreeStep}
 use Rattle.dht_types.specs.declared.calls.TreeStep.TheVariants.{AddFile}
-use Rattle.dht_brick.specs.Contents.{Contents, FileRecord, slot, file, dir}
-use Rattle.dht_brick.specs.Rows.{is_free}
-use Rattle.dht_brick.specs.declared.requests.Main.{Main}
+use Rattle.dht_types.specs.declared.stored.Main.TheVariants.{File}
+use Rattle.dht_types.specs.declared.stored.Slot.{Slot}
+use Rattle.dht_types.specs.declared.stored.Record.{Record}
+use Rattle.dht_brick.specs.Contents.{Contents, slot, file, dir, bare}
+use Rattle.dht_brick.specs.NameRows.{when, on_slot}
+use Rattle.dht_brick.specs.Outcome.{within, reply_in}
+use Rattle.dht_brick.specs.Parts.{is_bare, with_main}
+use Rattle.dht_brick.specs.Rows.{with_store}
 use Rattle.dht_brick.specs.declared.requests.NameRequest.TheVariants.{Create as Make}
 use Rattle.dht_brick.specs.declared.requests.Request.TheVariants.{OnNames}
-use Rattle.dht_brick.specs.declared.requests.Given.TheVariants.{Nothing}
-use Rattle.dht_brick.specs.declared.requests.Why.TheVariants.{Slot as BadSlot}
-use Rattle.dht_brick.specs.declared.requests.Reply.{Reply}
-use Rattle.dht_brick.specs.declared.requests.Reply.TheVariants.{Ok as Carried, Refused as Declined}
+use Rattle.dht_brick.specs.declared.replies.Given.TheVariants.{Nothing}
+use Rattle.dht_brick.specs.declared.replies.Reply.{Reply}
+use Rattle.dht_brick.specs.declared.replies.Reply.TheVariants.{Ok as Carried}
 use Rattle.dht_section.specs.Replies.{is_no_memory}
 use Rattle.dht_section.specs.Scene.{Disk, file_at, FileTruth, Scene, Sound, Moved, Earned, step_of, deeds_by}
 use Rattle.dht_section.specs.Section.{HasPlace, section_asks, section_left, section_location, SectionKnows}
 use Rattle.dht_section.specs.Closing.{closing_asks, closing_left, ClosingKnows}
+use Rattle.dht_section.proofs.KeptLaws.{bare_by}
 use Rattle.dht_section.proofs.SceneLaws.{row_reply}
 use Rattle.dht_section.proofs.SectionSteps.{in_dir_there, root_there, place_moved, section_goes_on, closing_short}
 use Rattle.dht_section.specs.declared.section.Location.{Location}
@@ -112,10 +117,8 @@ pub take_outcome : (c d : CreateCall) (x : Origin) (m : Section) (r : Reply) (s 
 take_outcome c d x m r s t e q l h = (h, let a = section_goes_on m s q.knows in rw e (omega arith))
 
 -- the holder has neither the name nor the file, so the create is carried out
-free_if : (o : Option Main) (f : Option FileRecord) → o ≡ None → f ≡ None → (is_none o && is_none f) ≡ true
-free_if None None e k = refl
-free_if (Some x) f e k = absurd (let q : Some x ≡ None = e in cc)
-free_if None (Some y) e k = absurd (let q : Some y ≡ None = k in cc)
+free_if : (p : Slot) (o : Option Record) → p ≡ bare → o ≡ None → (is_bare p && is_none o) ≡ true
+free_if p o e k = ap (λ (x : Slot). is_bare x && is_none o) e ∙ ap (λ (y : Option Record). is_bare bare && is_none y) k
 
 no_file : (d : Disk) (f : Gfid) (o : Option (List ℕ)) (b : ℕ) → FileTruth d f o → o ≡ None → b < d.count → file_at d b f ≡ None
 no_file d f None b h e l = h b l
@@ -125,10 +128,12 @@ carried : (x : NewFile) (l : Location) (r : Reply) (s t : Scene) → Sound s →
 carried x l r s t sound z h m =
     let there = h.makes.there in
     let c : Contents = s.disk.brick x.holder.0 in
-    let free : is_free c (l.directory, l.name) x.file ≡ true = free_if (slot c (l.directory, l.name)) (file c x.file) (h.empty x.holder.0 there) (no_file s.disk x.file (s.story.tree.bytes x.file) x.holder.0 (sound.kept.stands.bytes x.file) (file_free x l s sound h) there) in
+    let p : Slot = slot c.store (entry_at l) in
+    let empty : p ≡ bare = bare_by p (sound.kept.settled (entry_at l) x.holder.0 there) (h.empty x.holder.0 there) in
+    let free : (is_bare p && is_none (file c.store x.file)) ≡ true = free_if p (file c.store x.file) empty (no_file s.disk x.file (s.story.tree.bytes x.file) x.holder.0 (sound.kept.stands.bytes x.file) (file_free x l s sound h) there) in
     row_reply s t _ r m z
-    ∙ (in_dir_there (dir c l.directory) _ (root_there s l.directory x.holder.0 sound h.fresh.place.root there)
-    ∙ ap (λ b. if b then Carried Nothing else Declined (BadSlot (slot c (l.directory, l.name)))) free)
+    ∙ (ap (λ o. reply_in (within (with_store c) o)) (in_dir_there (dir c.store l.directory) _ (root_there s l.directory x.holder.0 sound h.fresh.place.root there))
+    ∙ ap (λ b. reply_in (within (with_store c) (on_slot (Make l.directory l.name x.file) c.store (entry_at l) (when b (with_main p (File x.file None)))))) free)
 
 made_step : (x : NewFile) (l : Location) (r : Reply) (at : ℕ) (s t : Scene) → Sound s → Sound t → is_no_memory r ≡ false → at ≡ t.story.size → IsFree x l s → Moved s (create_asks (Creating x l)) r t → Earned (record { answer = Made x.file; at = Some at }) t
 made_step x l r at s t sound after z e h m =

@@ -1,10 +1,23 @@
 -- The steps of a lookup within its section and its closing.
-use Rattle.std.proofs.Common.{◌≡◌, ◌<◌, ◌≤◌, ◌+◌, ◌-◌, ℕ, Bool, true, false, List, [], refl, sym, ◌∙◌, ap, arith}
+use Rattle.std.proofs.Common.{◌≡◌, ◌<◌, ◌≤◌, ◌+◌, ◌-◌, ℕ, Bool, true, false, List, [], refl, sym, ◌∙◌, ap, subst, arith}
 use Rattle.std.specs.Prelude.{Option, Some, None, nat_lt, nat_le, if◌then◌else◌}
 use Rattle.std.proofs.lemmas.Bool.Decides.{nat_tests}
 use Rattle.dht_types.specs.declared.calls.Call.TheVariants.{Lookup}
-use Rattle.dht_brick.specs.declared.requests.Reply.{Reply}
-use Rattle.dht_section.specs.Scene.{Scene, Sound, Moved}
+use Rattle.dht_brick.specs.declared.replies.Reply.{Reply}
+use Rattle.dht_types.specs.Tree.{Tree, IsFile, Refuse, says, looked_up, answer_of}
+use Rattle.dht_types.specs.Story.{Deeds, Tells}
+use Rattle.dht_types.specs.declared.identifiers.Gfid.{Gfid}
+use Rattle.dht_types.specs.declared.errors.Errno.TheVariants.{Estale}
+use Rattle.dht_types.specs.declared.calls.Call.{Call}
+use Rattle.dht_types.specs.declared.calls.Answer.TheVariants.{File}
+use Rattle.dht_section.specs.Replies.{is_no_memory, file_shown}
+use Rattle.dht_section.specs.Scene.{file_in, name_at, Scene, Sound, Moved, Earned}
+use Rattle.dht_section.proofs.SceneLaws.{slot_moved, deeds_quiet}
+use Rattle.dht_section.proofs.SectionSteps.{look_shown, node_is, saw_now}
+use Rattle.dht_section.specs.Section.{entry_at}
+use Rattle.dht_section.specs.declared.section.Place.{Place}
+use Rattle.dht_client.specs.Lookup.{Seeks}
+use Rattle.dht_client.specs.declared.lookup.Sought.{Sought}
 use Rattle.dht_section.specs.SectionLaws.{bricks_are}
 use Rattle.dht_section.specs.Section.{section_asks, section_left, section_location, SectionKnows}
 use Rattle.dht_section.specs.Closing.{closing_asks, closing_left, ClosingKnows}
@@ -91,6 +104,38 @@ surveyed_fed l b ranges = by (nat_le (l.bricks - b.0) 1)
     by : (v : Bool) → lookup_starved (if v then aimed l ranges else Surveying l (record { 0 = b.0 + 1 }) ranges) ≡ false
     by true = aimed_fed l ranges
     by false = refl
+
+-- a tree that has the file says so
+says_found : (p : Tree) (d : Gfid) (n : List ℕ) (f g : Gfid) → p.dirs d ≡ true → p.names (d, n) ≡ Some (IsFile f) → answer_of (says p (Lookup d n) g) ≡ Some (File f)
+says_found p d n f g e k = ap (λ b. answer_of (if b then looked_up (p.names (d, n)) else Refuse Estale)) e ∙ ap (λ o. answer_of (looked_up o)) k
+
+-- the file that the holder shows is the name's
+found_step : (x : Sought) (f : Gfid) (r : Reply) (at : ℕ) (s t : Scene) → is_no_memory r ≡ false → file_shown r ≡ Some f → Sound s → Sound t → at ≡ t.story.size → Seeks x s → Moved s (lookup_asks (LookingAtHolder x)) r t → Earned (record { answer = File f; at = Some at }) t
+found_step x f r at s t z found sound after e k m =
+    let l : Location = x.location in
+    let p : Place = record { brick = x.holder; file = f } in
+    let bricks = bricks_are l s sound k.fresh.place in
+    let within = k.within in
+    let count = m.disk.count in
+    let there : x.holder.0 < s.disk.count = omega arith in
+    let there_then : x.holder.0 < t.disk.count = omega arith in
+    let shown : file_shown r ≡ name_at s.disk x.holder.0 (entry_at l) = look_shown l.directory l.name x.holder s t r sound k.fresh.place.root there z m in
+    let here : name_at t.disk x.holder.0 (entry_at l) ≡ Some f = ap file_in (slot_moved s t _ r m tt (entry_at l) x.holder.0) ∙ (sym shown ∙ found) in
+    let node : t.story.tree.names (entry_at l) ≡ Some (IsFile f) = node_is t (entry_at l) (Some p) after (there_then, here) in
+    let saw = saw_now l (Some p) at t after k.fresh.place.root e node in
+    let deeds : t.mine.deeds ≡ None = deeds_quiet s t _ r tt m ∙ k.fresh.deeds in
+    let call : t.mine.call ≡ Lookup l.directory l.name = m.call ∙ k.call in
+    record {
+      point = at;
+      printed = refl;
+      after = saw.after;
+      before = saw.before;
+      tells = subst (λ (o : Option Deeds). Tells t.story t.mine.call o at (File f)) (sym deeds)
+          (λ (g : Gfid). ap (λ (o : Call). answer_of (says (t.story.past at) o g)) call ∙ says_found (t.story.past at) l.directory l.name f g saw.directory saw.node);
+    }
+
+pub take_found : (c : LookupCall) (x : Sought) (f : Gfid) (r : Reply) (at : ℕ) (s t : Scene) → c ≡ LookingAtHolder x → is_no_memory r ≡ false → file_shown r ≡ Some f → Sound s → Sound t → at ≡ t.story.size → LookupKnows c s → Moved s (lookup_asks c) r t → Earned (record { answer = File f; at = Some at }) t
+take_found c x f r at s t e z found sound after ea h mv = found_step x f r at s t z found sound after ea (rw e at h) (rw e at mv)
 
 -- the section's own step
 pub record SectionRuns (m : Section) (s : Scene) (r : Reply) (t : Scene) : Type 0 where

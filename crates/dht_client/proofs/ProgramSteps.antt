@@ -1,6 +1,6 @@
 -- The steps of a program: those of its call.
 use Rattle.std.proofs.Common.{◌≡◌, ◌<◌, sym, subst}
-use Rattle.dht_brick.specs.declared.requests.Reply.{Reply}
+use Rattle.dht_brick.specs.declared.replies.Reply.{Reply}
 use Rattle.dht_section.specs.Scene.{Scene, Moved}
 use Rattle.dht_client.specs.Lookup.{lookup_asks, lookup_left, LookupKnows}
 use Rattle.dht_client.specs.Create.{create_asks, create_left, CreateKnows}

@@ -11,7 +11,7 @@ use Rattle.dht_types.specs.declared.locks.Key.TheVariants.{Dir}
 use Rattle.dht_types.specs.declared.locks.Mode.TheVariants.{Shared}
 use Rattle.dht_brick.specs.declared.requests.NameRequest.TheVariants.{Look, Dirinfo}
 use Rattle.dht_brick.specs.declared.requests.Request.TheVariants.{Lock, OnNames}
-use Rattle.dht_brick.specs.declared.requests.Reply.{Reply}
+use Rattle.dht_brick.specs.declared.replies.Reply.{Reply}
 use Rattle.dht_brick.specs.declared.machines.Ask.{Ask}
 use Rattle.dht_section.specs.Scene.{Scene}
 use Rattle.dht_xattr.specs.declared.range.Range.{Range}

@@ -5,10 +5,10 @@ use Rattle.dht_types.specs.declared.calls.Call.TheVariants.{Create}
 use Rattle.dht_types.specs.declared.locks.Key.{Key}
 use Rattle.dht_brick.specs.declared.requests.NameRequest.TheVariants.{Create as Make}
 use Rattle.dht_brick.specs.declared.requests.Request.TheVariants.{OnNames}
-use Rattle.dht_brick.specs.declared.requests.Reply.{Reply}
+use Rattle.dht_brick.specs.declared.replies.Reply.{Reply}
 use Rattle.dht_brick.specs.declared.machines.Ask.{Ask}
 use Rattle.dht_xattr.specs.declared.range.Range.{Range}
-use Rattle.dht_section.specs.Scene.{Scene, slot_at, holder_of}
+use Rattle.dht_section.specs.Scene.{Scene, name_at, holder_of}
 use Rattle.dht_section.specs.Section.{entry_at, IsFresh, Locked, section_asks, section_location, section_left, section_locks, both_locks, section_taught, SectionKnows}
 use Rattle.dht_section.specs.Closing.{closing_asks, closing_left, closing_locks, closing_finish, ClosingKnows}
 use Rattle.dht_section.specs.declared.section.Location.{Location}
@@ -80,7 +80,7 @@ pub record IsFree (x : NewFile) (l : Location) (s : Scene) : Type 0 where
   pub makes : Makes x l s
   pub fresh : IsFresh l s
   pub locked : Locked l s
-  pub empty : (b : ℕ) → b < s.disk.count → slot_at s.disk b (entry_at l) ≡ None
+  pub empty : (b : ℕ) → b < s.disk.count → name_at s.disk b (entry_at l) ≡ None
   pub holds : holder_of s.disk (entry_at l) ≡ Some x.holder.0
 
 abbrev pub CreateKnows : CreateCall → Scene → Type 0

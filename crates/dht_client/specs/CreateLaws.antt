@@ -11,7 +11,7 @@ use Rattle.dht_types.specs.declared.calls.Call.{Call}
 use Rattle.dht_types.specs.declared.calls.Call.TheVariants.{Create}
 use Rattle.dht_types.specs.declared.calls.Answer.TheVariants.{Made}
 use Rattle.dht_types.specs.declared.calls.TreeStep.TheVariants.{AddFile}
-use Rattle.dht_section.specs.Scene.{Scene, Sound, Permitted, Others, Wants}
+use Rattle.dht_section.specs.Scene.{Scene, file_in, Sound, Permitted, Others, Wants}
 use Rattle.dht_section.proofs.SectionSteps.{root_in_tree, node_is}
 use Rattle.dht_section.specs.Section.{entry_at}
 use Rattle.dht_section.specs.SectionLaws.{section_permitted, section_stable, fresh_stable, locked_stable}
@@ -73,7 +73,7 @@ free_stable x l s t h o = record {
   makes = makes_stable x l s t h.makes o;
   fresh = fresh_stable l s t h.fresh o;
   locked = locked_stable l s t h.locked o;
-  empty = λ b k. o.slots l.directory l.name h.locked.name b ∙ h.empty b (let c = o.count in omega arith);
+  empty = λ b k. ap file_in (o.slots l.directory l.name h.locked.name b) ∙ h.empty b (let c = o.count in omega arith);
   holds = ap (λ ranges. holder ranges (dm l.name)) (layout_stable s t l.directory o) ∙ h.holds;
 }
 

@@ -8,7 +8,7 @@ use Rattle.dht_types.specs.declared.calls.Answer.TheVariants.{File, Fault}
 use Rattle.dht_types.specs.declared.locks.Key.{Key}
 use Rattle.dht_brick.specs.declared.requests.NameRequest.TheVariants.{Look, Dirinfo}
 use Rattle.dht_brick.specs.declared.requests.Request.TheVariants.{OnNames}
-use Rattle.dht_brick.specs.declared.requests.Reply.{Reply}
+use Rattle.dht_brick.specs.declared.replies.Reply.{Reply}
 use Rattle.dht_brick.specs.declared.machines.Ask.{Ask}
 use Rattle.dht_xattr.specs.declared.range.Range.{Range}
 use Rattle.dht_section.specs.Replies.{is_no_memory, range_shown}

@@ -5,8 +5,8 @@ use Rattle.dht_types.specs.declared.errors.Errno.TheVariants.{Enoent, Enomem, Ee
 use Rattle.dht_types.specs.declared.calls.Answer.{Answer}
 use Rattle.dht_types.specs.declared.calls.Answer.TheVariants.{File, Made, Fault}
 use Rattle.dht_brick.specs.declared.requests.Request.{Request}
-use Rattle.dht_brick.specs.declared.requests.Request.TheVariants.{Lock, Unlock, OnNames}
-use Rattle.dht_brick.specs.declared.requests.Reply.{Reply}
+use Rattle.dht_brick.specs.declared.requests.Request.TheVariants.{Unlock}
+use Rattle.dht_brick.specs.declared.replies.Reply.{Reply}
 use Rattle.dht_section.specs.Replies.{is_no_memory}
 
 abbrev pub is_memory_error : Errno → Bool
@@ -24,6 +24,5 @@ is_enomem (Fault e) = is_memory_error e
 
 -- there was no memory for the request; an unlock takes none
 abbrev pub starves : Request → Reply → Bool
-starves (Lock key mode) r = is_no_memory r
 starves (Unlock key) r = false
-starves (OnNames q) r = is_no_memory r
+starves q r = is_no_memory r

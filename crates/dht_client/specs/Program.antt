@@ -1,7 +1,7 @@
 -- What a program asks and knows: what its call does. These do not unfold by themselves, so that no proof above looks into a call.
 use Rattle.std.specs.Prelude.{ℕ, Bool, Option, List}
 use Rattle.dht_types.specs.declared.locks.Key.{Key}
-use Rattle.dht_brick.specs.declared.requests.Reply.{Reply}
+use Rattle.dht_brick.specs.declared.replies.Reply.{Reply}
 use Rattle.dht_brick.specs.declared.machines.Ask.{Ask}
 use Rattle.dht_xattr.specs.declared.range.Range.{Range}
 use Rattle.dht_section.specs.Scene.{Scene}

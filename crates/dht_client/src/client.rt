@@ -15,7 +15,7 @@ use super::layout::learn;
 use super::lookup::LookupCall;
 use super::program::Program;
 use dht_brick::machines::{Ask, Finish, Turn};
-use dht_brick::requests::Reply;
+use dht_brick::replies::Reply;
 use dht_section::caller::Caller;
 use dht_section::machine::Machine;
 use dht_section::section::Location;
@@ -159,42 +159,56 @@ impl Caller for Client {
 #[cfg(test)]
 mod tests {
     use super::*;
-    use dht_brick::requests::{DirRecord, Given, Main, NameRequest, Request};
+    use dht_brick::replies::{DirInfo, Given, Look};
+    use dht_brick::requests::{NameRequest, Request};
+    use dht_types::bytes::Bytes;
     use dht_types::calls::Answer;
     use dht_types::errors::Errno;
     use dht_types::identifiers::BrickNo;
-    use dht_types::lines::{LayoutValue, RequestKind};
+    use dht_types::lines::RequestKind;
     use dht_types::names::Name;
+    use dht_types::stored::{Main, Slot};
     use std::alloc::{AllocError, Global};
     use std::test::Fail;
 
     /// The range of all hashes.
-    const WHOLE: LayoutValue = LayoutValue([
-        0, 0, 0, 0, 0, 0, 0, 0, 0, 0, 0, 0, 255, 255, 255, 255,
-    ]);
+    const WHOLE: [u8; 16] = [0, 0, 0, 0, 0, 0, 0, 0, 0, 0, 0, 0, 255, 255, 255, 255];
 
     /// The brick that has the whole range in these tests.
     const HOLDER: BrickNo = BrickNo(1);
 
-    /// What a brick replies that has this at every name.
-    fn reply_of(ask: &Ask, slot: Option<Main>) -> Reply {
+    /// What a brick gives that has this file at every name.
+    fn given(alloc: Global, ask: &Ask, file: Option<Gfid>) -> Result<Given, AllocError> {
         let value = if ask.brick == HOLDER {
-            Some(WHOLE)
+            Some(Bytes::new(Vec::from_slice(alloc, &WHOLE)?))
         } else {
             None
         };
-        match ask.request {
-            Request::OnNames(NameRequest::Look(_, _)) => Reply::Ok(Given::Slot(slot, value)),
-            Request::OnNames(NameRequest::Dirinfo(_)) => Reply::Ok(Given::Dir(DirRecord { value })),
-            _ => Reply::Ok(Given::Nothing),
-        }
+        Ok(match ask.request {
+            Request::OnNames(NameRequest::Look(_, _)) => Given::Look(Look {
+                slot: Slot {
+                    main: file.map(|file| Main::File(file, None)),
+                    standby: None,
+                },
+                file: None,
+                copy: None,
+                value,
+            }),
+            Request::OnNames(NameRequest::Dirinfo(_)) => Given::Dirinfo(DirInfo {
+                place: None,
+                depth: 0,
+                value,
+                is_occupied: false,
+            }),
+            _ => Given::Nothing,
+        })
     }
 
     /// The kinds of a call's requests, of which that of this number finds no memory, and its answer.
     fn run(
         alloc: Global,
         client: &mut Client,
-        slot: Option<Main>,
+        file: Option<Gfid>,
         fails: u64,
     ) -> Result<(Vec<RequestKind>, Option<Answer>), AllocError> {
         let mut kinds = Vec::new(alloc);
@@ -208,7 +222,7 @@ mod tests {
             let reply = if step == fails {
                 Reply::NoMemory
             } else {
-                reply_of(&ask, slot)
+                Reply::Ok(given(alloc, &ask, file)?)
             };
             answer = client.take(reply, step).map(|finish| finish.answer);
         }
@@ -252,7 +266,7 @@ mod tests {
         assert_eq!(rt; file_of(answer), Some(file));
         if client.is_idle() {
             client.start(&weights, 1, CallNo(10), &Call::Lookup(Gfid::ROOT, name));
-            let (kinds, answer) = run(rt.alloc(), &mut client, Some(Main::File(file)), 0)?;
+            let (kinds, answer) = run(rt.alloc(), &mut client, Some(file), 0)?;
             assert_eq!(rt; kinds.as_slice(), [RequestKind::Look].as_slice());
             assert_eq!(rt; file_of(answer), Some(file));
         }

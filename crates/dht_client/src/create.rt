@@ -10,7 +10,8 @@ ghost use Rattle.dht_client.specs.Create.{ComesOf, create_asks, create_left, cre
 ghost use Rattle.dht_client.specs.CreateLaws.{create_permitted, create_stable};
 
 use dht_brick::machines::{Ask, Finish, Turn};
-use dht_brick::requests::{NameRequest, Reply, Request};
+use dht_brick::replies::Reply;
+use dht_brick::requests::{NameRequest, Request};
 use dht_section::closing::{Closing, want_of_memory};
 use dht_section::machine::Machine;
 use dht_section::replies::is_no_memory;

@@ -14,10 +14,11 @@ ghost use Rattle.dht_client.specs.LookupLaws.{lookup_permitted, lookup_stable};
 
 use super::layout::holder_in;
 use dht_brick::machines::{Ask, Finish, Turn};
-use dht_brick::requests::{Main, NameRequest, Reply, Request};
+use dht_brick::replies::Reply;
+use dht_brick::requests::{NameRequest, Request};
 use dht_section::closing::{Closing, want_of_memory};
 use dht_section::machine::Machine;
-use dht_section::replies::{is_no_memory, main_shown, range_shown};
+use dht_section::replies::{file_shown, is_no_memory, range_shown};
 use dht_section::section::{Location, Outcome, Place, Section, lengthen};
 use dht_types::calls::Answer;
 use dht_types::errors::Errno;
@@ -176,8 +177,8 @@ impl Machine for LookupCall {
                 if is_no_memory(&reply) {
                     Turn::Done(want_of_memory())
                 } else {
-                    match main_shown(&reply) {
-                        Some(Main::File(file)) => Turn::Done(Finish {
+                    match file_shown(&reply) {
+                        Some(file) => Turn::Done(Finish {
                             answer: Answer::File(file),
                             at: Some(at),
                         }),

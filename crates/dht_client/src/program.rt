@@ -11,7 +11,7 @@ ghost use Rattle.dht_client.specs.ProgramLaws.{program_permitted, program_stable
 use super::create::CreateCall;
 use super::lookup::LookupCall;
 use dht_brick::machines::{Ask, Finish, Turn};
-use dht_brick::requests::Reply;
+use dht_brick::replies::Reply;
 use dht_section::machine::Machine;
 use dht_xattr::layout::Layout;
 

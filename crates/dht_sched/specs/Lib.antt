@@ -4,3 +4,5 @@ pub mod Schedule
 pub mod Transcript
 pub mod Printing
 pub mod Commands
+pub mod Dump
+pub mod Kinds

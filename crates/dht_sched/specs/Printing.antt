@@ -1,11 +1,12 @@
 -- What it is to print at the end of a text.
 use Rattle.std.specs.Prelude.{ℕ, ◌≡◌, ◌++◌, List, [], ◌∷◌, map, decimal, Result, Ok, Err}
 use Rattle.std.specs.List.{flat_map}
-use Rattle.dht_types.specs.Text.{gfid_text, hex_bytes}
+use Rattle.dht_types.specs.Text.{gfid_text}
 use Rattle.dht_sched.specs.declared.fields.Field.{Field}
 use Rattle.dht_sched.specs.declared.fields.Field.TheVariants as field
 use Rattle.dht_sched.specs.Spelling.{spelled}
-use Rattle.dht_sched.specs.Transcript.{point_words, layout_word}
+use Rattle.dht_sched.specs.Dump.{value_word, main_words, standby_words, record_words}
+use Rattle.dht_sched.specs.Transcript.{point_words}
 
 -- new is old and this text behind it, or where memory ran out old and a part of it
 abbrev pub Appends : {E : Type 0} → List ℕ → List ℕ → Result (Unit {0}) E → List ℕ → Type 0
@@ -20,8 +21,10 @@ field_words (field.Numbers ns) = map decimal ns.now
 field_words (field.Point point) = point_words point
 field_words (field.Name n) = spelled n.now ∷ []
 field_words (field.Gfid g) = gfid_text g ∷ []
-field_words (field.Layout layout) = layout_word layout ∷ []
-field_words (field.Hex bytes) = hex_bytes bytes.now ∷ []
+field_words (field.Value value) = value_word value.now ∷ []
+field_words (field.Main main) = main_words main.now
+field_words (field.Standby standby) = standby_words standby
+field_words (field.Record line) = record_words line.now
 
 -- words with a space in front of each
 abbrev pub behind_spaces : List (List ℕ) → List ℕ

@@ -2,25 +2,20 @@
 use Rattle.std.specs.Prelude.{ℕ, Option, Some, None, List, [], ◌∷◌, ◌++◌, length, map, codes, decimal}
 use Rattle.std.specs.List.{flat_map}
 use Rattle.dht_types.specs.Errno.{errno_word}
-use Rattle.dht_types.specs.Text.{gfid_text, hex_bytes}
+use Rattle.dht_types.specs.Text.{gfid_text}
 use Rattle.dht_types.specs.declared.calls.Call.{Call}
 use Rattle.dht_types.specs.declared.calls.Call.TheVariants.{Lookup, Create}
 use Rattle.dht_types.specs.declared.calls.Answer.{Answer}
 use Rattle.dht_types.specs.declared.calls.Answer.TheVariants.{File, Made, Fault}
 use Rattle.dht_types.specs.declared.calls.TreeStep.{TreeStep}
 use Rattle.dht_types.specs.declared.calls.TreeStep.TheVariants.{AddFile}
-use Rattle.dht_types.specs.declared.lines.RequestKind.{RequestKind}
-use Rattle.dht_types.specs.declared.lines.RequestKind.TheVariants as request
-use Rattle.dht_types.specs.declared.lines.Refusal.TheVariants.{Nodir, Slot}
-use Rattle.dht_types.specs.declared.lines.ReplyKind.{ReplyKind}
-use Rattle.dht_types.specs.declared.lines.ReplyKind.TheVariants as reply
 use Rattle.dht_types.specs.declared.lines.Cause.{Cause}
 use Rattle.dht_types.specs.declared.lines.Cause.TheVariants.{Busy, Idle}
-use Rattle.dht_types.specs.declared.lines.LayoutValue.{LayoutValue}
 use Rattle.dht_types.specs.declared.lines.Line.{Line}
 use Rattle.dht_types.specs.declared.lines.Line.TheVariants.{Volume, Called, Stepped, Tree, Answered, Refused}
 use Rattle.dht_types.specs.declared.lines.DumpLine.{DumpLine}
-use Rattle.dht_types.specs.declared.lines.DumpLine.TheVariants as dump
+use Rattle.dht_sched.specs.Dump.{dump_words}
+use Rattle.dht_sched.specs.Kinds.{request_word, reply_word}
 use Rattle.dht_sched.specs.Spelling.{spaced, spelled}
 
 -- the line of these words
@@ -30,19 +25,6 @@ text_of words = spaced words ++ 10 ∷ []
 abbrev pub called_words : Call → List (List ℕ)
 called_words (Lookup d n) = codes "lookup" ∷ gfid_text d ∷ spelled n ∷ []
 called_words (Create d n) = codes "create" ∷ gfid_text d ∷ spelled n ∷ []
-
-abbrev pub request_word : RequestKind → List ℕ
-request_word request.Lock = codes "lock"
-request_word request.Unlock = codes "unlock"
-request_word request.Look = codes "look"
-request_word request.Dirinfo = codes "dirinfo"
-request_word request.Create = codes "create"
-
-abbrev pub reply_word : ReplyKind → List ℕ
-reply_word reply.Ok = codes "ok"
-reply_word (reply.Refused Nodir) = codes "refused:nodir"
-reply_word (reply.Refused Slot) = codes "refused:slot"
-reply_word reply.NoMemory = codes "nomem"
 
 abbrev pub tree_words : TreeStep → List (List ℕ)
 tree_words (AddFile d n f) = codes "add-file" ∷ gfid_text d ∷ spelled n ∷ gfid_text f ∷ []
@@ -76,17 +58,6 @@ unfoldable pub lines_text : List Line → List ℕ
 lines_text lines = flat_map line_text lines
 
 -- ---- what the bricks contain
-
-abbrev pub layout_word : Option LayoutValue → List ℕ
-layout_word None = codes "-"
-layout_word (Some value) = hex_bytes value.0
-
-abbrev pub dump_words : DumpLine → List (List ℕ)
-dump_words (dump.Brick b) = codes "brick" ∷ decimal b.0 ∷ codes "up" ∷ []
-dump_words (dump.Dir b g value) = codes "dir" ∷ decimal b.0 ∷ gfid_text g ∷ layout_word value ∷ []
-dump_words (dump.Slot b d n f) = codes "slot" ∷ decimal b.0 ∷ gfid_text d ∷ spelled n ∷ codes "data" ∷ gfid_text f ∷ codes "-" ∷ []
-dump_words (dump.File b f hop links size digest) = codes "file" ∷ decimal b.0 ∷ gfid_text f ∷ codes "live" ∷ decimal hop ∷ decimal links ∷ decimal size ∷ hex_bytes digest ∷ []
-dump_words dump.End = codes "end" ∷ []
 
 unfoldable pub dump_text : DumpLine → List ℕ
 dump_text line = text_of (dump_words line)

@@ -7,8 +7,8 @@ ghost use Rattle.dht_sched.specs.Printing.{Appends};
 
 use crate::fields::{Field, print_fields};
 use crate::names::push_name;
+use dht_types::bytes::Bytes;
 use dht_types::identifiers::BrickNo;
-use dht_types::lines::LayoutValue;
 use itoa::Buffer;
 use std::alloc::AllocError;
 
@@ -51,15 +51,15 @@ pub fn print_hash(hash: u32, name: &[u8], out: &mut Vec<u8>) -> Result<(), Alloc
 #[tactic(auto, unfolding(crate::specs::Commands::range_line))]
 pub fn print_range(
     brick: BrickNo,
-    value: Option<LayoutValue>,
+    value: &Option<Bytes>,
     out: &mut Vec<u8>,
 ) -> Result<(), AllocError>
-    ensures ok { OnOk result (out.new.items ≡ out.old.items ++ range_line brick.0 value) }
+    ensures ok { OnOk result (out.new.items ≡ out.old.items ++ range_line brick.0 value.now) }
     ensures err { OnErr result (out.new.items ≡ out.old.items) }
 {
     let mut buffer = Buffer::new();
     let number = buffer.format(u64::from(brick.0));
-    print_fields(out, number, &[Field::Layout(value)])
+    print_fields(out, number, &[Field::Value(value)])
 }
 
 #[cfg(test)]
@@ -72,11 +72,12 @@ mod tests {
         let mut out = Vec::new(rt.alloc());
         print_hash(0x0234_5678, b"a b%\xff", &mut out)?;
         print_hash(0xffff_ffff, b"", &mut out)?;
-        print_range(BrickNo(31), None, &mut out)?;
-        let value = LayoutValue([
+        print_range(BrickNo(31), &None, &mut out)?;
+        let bytes: [u8; 16] = [
             0, 0, 0, 0, 0, 0, 0, 0, 0, 0x41, 0x78, 0x74, 255, 255, 255, 255,
-        ]);
-        print_range(BrickNo(2), Some(value), &mut out)?;
+        ];
+        let value = Bytes::new(Vec::from_slice(rt.alloc(), &bytes)?);
+        print_range(BrickNo(2), &Some(value), &mut out)?;
         let wanted =
             b"02345678 a%20b%25%ff\nffffffff %-\n31 -\n2 000000000000000000417874ffffffff\n";
         assert_eq!(rt; out.as_slice(), wanted.as_slice());

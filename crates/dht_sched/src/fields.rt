@@ -1,16 +1,20 @@
 //! The fields of a line, and a line of them.
 
-ghost use Rattle.std.specs.Prelude.{◌≡◌, ◌++◌, ◌∷◌, [], map, decimal, OnOk, OnErr};
+ghost use Rattle.std.specs.Prelude.{◌≡◌, ◌++◌, ◌∷◌, [], map, decimal, Some, OnOk, OnErr};
 ghost use Rattle.std.specs.List.{flat_map};
-ghost use Rattle.dht_types.specs.Text.{hex_bytes};
+ghost use Rattle.dht_types.specs.Text.{gfid_text, hex_bytes};
+ghost use Rattle.dht_types.specs.declared.stored.Main.TheVariants.{File};
 ghost use Rattle.dht_sched.specs.Printing.{Appends, field_words, behind_spaces};
 ghost use Rattle.dht_sched.specs.Spelling.{spelled};
+ghost use Rattle.dht_sched.specs.Dump.{value_word, bytes_word, main_words, standby_words, record_words};
 ghost use Rattle.dht_sched.specs.Transcript.{text_of, point_words};
 
 use crate::names::push_name;
-use dht_types::identifiers::Gfid;
-use dht_types::lines::LayoutValue;
+use dht_types::bytes::Bytes;
+use dht_types::identifiers::{BrickNo, Gfid};
+use dht_types::lines::RecordLine;
 use dht_types::names::Name;
+use dht_types::stored::{Main, Standby};
 use itoa::Buffer;
 use std::alloc::AllocError;
 
@@ -29,10 +33,15 @@ pub enum Field<'a> {
     Name(&'a Name),
     /// The text of a gfid.
     Gfid(Gfid),
-    /// The attribute of a directory, in hexadecimal digits, and `-` where there is none.
-    Layout(Option<LayoutValue>),
-    /// Each byte as two hexadecimal digits.
-    Hex(&'a [u8]),
+    /// The attribute of a directory: in hexadecimal digits, `x` where it is empty, and `-` where there
+    /// is none.
+    Value(&'a Option<Bytes>),
+    /// The main part of a slot, and `-` where there is none.
+    Main(&'a Option<Main>),
+    /// The standby part of a slot, and `-` where there is none.
+    Standby(Option<Standby>),
+    /// A file's record.
+    Record(&'a RecordLine),
 }
 
 /// Appends a number in decimal.
@@ -91,15 +100,22 @@ pub fn hex_pair(byte: u8) -> [u8; 2]
     digits
 }
 
+/// Appends each byte as two digits.
+fn push_hex(out: &mut Vec<u8>, bytes: &[u8]) -> Result<(), AllocError>
+    ensures { Appends out.old.items out.new.items result (hex_bytes bytes.now) }
+{
+    for byte in bytes {
+        out.extend_from_slice(&hex_pair(*byte))?;
+    }
+    Ok(())
+}
+
 /// Appends a space, and each byte as two digits.
 fn push_hex_word(out: &mut Vec<u8>, bytes: &[u8]) -> Result<(), AllocError>
     ensures { Appends out.old.items out.new.items result (32 ∷ hex_bytes bytes.now) }
 {
     out.push(b' ')?;
-    for byte in bytes {
-        out.extend_from_slice(&hex_pair(*byte))?;
-    }
-    Ok(())
+    push_hex(out, bytes)
 }
 
 /// Appends a space and the spelling of a name.
@@ -108,6 +124,131 @@ fn push_name_word(out: &mut Vec<u8>, name: &Name) -> Result<(), AllocError>
 {
     out.push(b' ')?;
     push_name(out, name.as_bytes())
+}
+
+/// Appends a space, and the attribute of a directory.
+fn push_value(out: &mut Vec<u8>, value: &Option<Bytes>) -> Result<(), AllocError>
+    ensures { Appends out.old.items out.new.items result (32 ∷ value_word value.now) }
+{
+    match value {
+        None => push_word(out, b"-"),
+        Some(value) => match value.as_slice() {
+            [] => push_word(out, b"x"),
+            bytes => push_hex_word(out, bytes),
+        },
+    }
+}
+
+/// Appends a space, an `x`, and each byte as two digits.
+fn push_bytes(out: &mut Vec<u8>, bytes: &[u8]) -> Result<(), AllocError>
+    ensures { Appends out.old.items out.new.items result (32 ∷ bytes_word bytes.now) }
+{
+    out.extend_from_slice(b" x")?;
+    push_hex(out, bytes)
+}
+
+/// Appends a word and a gfid, each behind a space.
+fn push_gfid(out: &mut Vec<u8>, word: &str, gfid: Gfid) -> Result<(), AllocError>
+    ensures { Appends out.old.items out.new.items result (behind_spaces (word.now ∷ gfid_text gfid ∷ [])) }
+{
+    push_word(out, word.as_bytes())?;
+    push_word(out, &gfid.text())
+}
+
+/// Appends what a file at a name is, and the brick for which the name is marked, if it is.
+fn push_file(out: &mut Vec<u8>, file: Gfid, over: Option<BrickNo>) -> Result<(), AllocError>
+    ensures { Appends out.old.items out.new.items result (behind_spaces (main_words (Some (File file over)))) }
+{
+    push_gfid(out, "data", file)?;
+    match over {
+        None => Ok(()),
+        Some(brick) => {
+            push_word(out, b"over")?;
+            push_number_word(out, u64::from(brick.0))
+        }
+    }
+}
+
+/// Appends the main part of a slot.
+fn push_main(out: &mut Vec<u8>, main: &Option<Main>) -> Result<(), AllocError>
+    ensures { Appends out.old.items out.new.items result (behind_spaces (main_words main.now)) }
+{
+    match main {
+        None => push_word(out, b"-"),
+        Some(Main::Dir(dir)) => push_gfid(out, "dir", *dir),
+        Some(Main::File(file, over)) => push_file(out, *file, *over),
+        Some(Main::Linkto(value)) => {
+            push_word(out, b"linkto")?;
+            push_bytes(out, value.as_slice())
+        }
+    }
+}
+
+/// Appends the standby part of a slot.
+fn push_standby(out: &mut Vec<u8>, standby: Option<Standby>) -> Result<(), AllocError>
+    ensures { Appends out.old.items out.new.items result (behind_spaces (standby_words standby)) }
+{
+    match standby {
+        None => push_word(out, b"-"),
+        Some(Standby::StandLink(file)) => push_gfid(out, "link", file),
+        Some(Standby::Copy(file)) => push_gfid(out, "copy", file),
+    }
+}
+
+/// Appends three numbers, each behind a space, and then bytes as two digits each.
+fn push_content(out: &mut Vec<u8>, numbers: [u64; 3], digest: &[u8]) -> Result<(), AllocError>
+    ensures { Appends out.old.items out.new.items result
+        (behind_spaces (map decimal numbers ++ hex_bytes digest.now ∷ [])) }
+{
+    let [first, second, third] = numbers;
+    push_number_word(out, first)?;
+    push_number_word(out, second)?;
+    push_number_word(out, third)?;
+    push_hex_word(out, digest)
+}
+
+/// Appends what a dump tells of a file's record.
+fn push_record(out: &mut Vec<u8>, line: &RecordLine) -> Result<(), AllocError>
+    ensures { Appends out.old.items out.new.items result (behind_spaces (record_words line.now)) }
+{
+    match line {
+        RecordLine::Live {
+            hop,
+            links,
+            length,
+            digest,
+        } => {
+            push_word(out, b"live")?;
+            push_content(out, [*hop, *links, *length], digest)
+        }
+        RecordLine::Moving {
+            hop,
+            links,
+            length,
+            digest,
+            dest,
+        } => {
+            push_word(out, b"moving")?;
+            push_content(out, [*hop, *links, *length], digest)?;
+            push_number_word(out, u64::from(dest.0))
+        }
+        RecordLine::Standby {
+            hop,
+            source,
+            length,
+            digest,
+            is_dirty,
+        } => {
+            push_word(out, b"standby")?;
+            push_content(out, [*hop, u64::from(source.0), *length], digest)?;
+            push_word(out, if *is_dirty { b"dirty" } else { b"clean" })
+        }
+        RecordLine::Forward { brick, hop } => {
+            push_word(out, b"forward")?;
+            push_number_word(out, u64::from(brick.0))?;
+            push_number_word(out, *hop)
+        }
+    }
 }
 
 /// Appends the words of a field, each behind a space.
@@ -121,9 +262,10 @@ fn push_field(out: &mut Vec<u8>, field: &Field<'_>) -> Result<(), AllocError>
         Field::Point(point) => push_point(out, point),
         Field::Name(name) => push_name_word(out, name),
         Field::Gfid(gfid) => push_word(out, &gfid.text()),
-        Field::Layout(None) => push_word(out, b"-"),
-        Field::Layout(Some(layout)) => push_hex_word(out, &layout.0),
-        Field::Hex(bytes) => push_hex_word(out, bytes),
+        Field::Value(value) => push_value(out, value),
+        Field::Main(main) => push_main(out, main),
+        Field::Standby(standby) => push_standby(out, standby),
+        Field::Record(line) => push_record(out, line),
     }
 }
 

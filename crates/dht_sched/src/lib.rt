@@ -3,17 +3,20 @@
 #![tactic(auto)]
 
 mod commands;
+mod dump;
 mod fault;
 mod fields;
+mod kinds;
 mod names;
 mod schedule;
 mod transcript;
 mod words;
 
 pub use commands::{print_hash, print_range};
+pub use dump::print_dump_line;
 pub use fault::LineFault;
 pub use schedule::{is_volume, one_line, read_line, read_weight};
-pub use transcript::{lines_follow, print_dump_line, print_line, print_malformed, print_usage};
+pub use transcript::{lines_follow, print_line, print_malformed, print_usage};
 
 #[cfg(test)]
 mod tests;

@@ -1,10 +1,12 @@
 use super::*;
+use dht_types::bytes::Bytes;
 use dht_types::calls::{Answer, Call, TreeStep};
 use dht_types::errors::Errno;
 use dht_types::events::Event;
 use dht_types::identifiers::{BrickNo, CallNo, ClientNo, Gfid};
-use dht_types::lines::{Cause, DumpLine, LayoutValue, Line, Refusal, ReplyKind, RequestKind};
+use dht_types::lines::{Cause, DumpLine, Line, RecordLine, Refusal, ReplyKind, RequestKind};
 use dht_types::names::Name;
+use dht_types::stored::{Main, Slot, Standby};
 use dht_types::volumes::Weights;
 use std::alloc::{AllocError, Global};
 use std::process::Abort;
@@ -204,6 +206,18 @@ fn lines_of_steps(rt: HostRuntime) -> Result<(), Fail> {
         slot,
         "step 12 1 3 create refused:slot\n",
     )?;
+    check_step(
+        &rt,
+        RequestKind::MakeStandby,
+        ReplyKind::Failed,
+        "step 12 1 3 mkstandby failed\n",
+    )?;
+    check_step(
+        &rt,
+        RequestKind::LockedWrite,
+        ReplyKind::Down,
+        "step 12 1 3 lwrite down\n",
+    )?;
     Ok(())
 }
 
@@ -239,27 +253,112 @@ fn check_dump(
     Ok(())
 }
 
+const DIGEST: &str = "e3e3e3e3e3e3e3e3e3e3e3e3e3e3e3e3e3e3e3e3e3e3e3e3e3e3e3e3e3e3e3e3";
+
+fn check_slot(rt: &(impl Abort + AllocGlobal), slot: Slot, words: &str) -> Result<(), AllocError> {
+    let line = DumpLine::Slot(BrickNo(3), Gfid::ROOT, Name::of(b"a b%"), slot);
+    let text = format!(in rt.alloc(); "slot 3 {ROOT} a%20b%25 {words}\n")?;
+    check_dump(rt, &line, text.as_str())
+}
+
+fn check_file(
+    rt: &(impl Abort + AllocGlobal),
+    record: RecordLine,
+    words: &str,
+) -> Result<(), AllocError> {
+    let line = DumpLine::File(BrickNo(3), made(), record);
+    let text = format!(in rt.alloc(); "file 3 {MADE} {words}\n")?;
+    check_dump(rt, &line, text.as_str())
+}
+
 #[test]
 fn lines_of_dumps(rt: HostRuntime) -> Result<(), Fail> {
-    let name = Name::new(b"a b%").ok().ok_or("a name")?;
-    check_dump(&rt, &DumpLine::Brick(BrickNo(3)), "brick 3 up\n")?;
+    check_dump(&rt, &DumpLine::Brick(BrickNo(3), true), "brick 3 up\n")?;
+    check_dump(&rt, &DumpLine::Brick(BrickNo(3), false), "brick 3 down\n")?;
     let none = DumpLine::Dir(BrickNo(3), Gfid::ROOT, None);
     let text = format!(in rt.alloc(); "dir 3 {ROOT} -\n")?;
     check_dump(&rt, &none, text.as_str())?;
-    let value = LayoutValue([
-        0, 0, 0, 0, 0, 0, 0, 1, 0xab, 0, 0, 0, 0xff, 0xff, 0xff, 0xff,
-    ]);
-    let some = DumpLine::Dir(BrickNo(3), Gfid::ROOT, Some(value));
-    let text = format!(in rt.alloc(); "dir 3 {ROOT} 0000000000000001ab000000ffffffff\n")?;
+    let empty = Bytes::new(Vec::new(rt.alloc()));
+    let some = DumpLine::Dir(BrickNo(3), Gfid::ROOT, Some(empty));
+    let text = format!(in rt.alloc(); "dir 3 {ROOT} x\n")?;
     check_dump(&rt, &some, text.as_str())?;
-    let slot = DumpLine::Slot(BrickNo(3), Gfid::ROOT, name, made());
-    let text = format!(in rt.alloc(); "slot 3 {ROOT} a%20b%25 data {MADE} -\n")?;
-    check_dump(&rt, &slot, text.as_str())?;
-    let file = DumpLine::File(BrickNo(3), made(), 0, 1, 2, [0xe3; 32]);
-    let digest = "e3e3e3e3e3e3e3e3e3e3e3e3e3e3e3e3e3e3e3e3e3e3e3e3e3e3e3e3e3e3e3e3";
-    let text = format!(in rt.alloc(); "file 3 {MADE} live 0 1 2 {digest}\n")?;
-    check_dump(&rt, &file, text.as_str())?;
+    let value = Bytes::new(vec![in rt.alloc(); 0, 0xab, 0xff]?);
+    let some = DumpLine::Dir(BrickNo(3), Gfid::ROOT, Some(value));
+    let text = format!(in rt.alloc(); "dir 3 {ROOT} 00abff\n")?;
+    check_dump(&rt, &some, text.as_str())?;
     check_dump(&rt, &DumpLine::End, "end\n")?;
+    Ok(())
+}
+
+#[test]
+fn lines_of_slots(rt: HostRuntime) -> Result<(), Fail> {
+    let file = Slot {
+        main: Some(Main::File(made(), None)),
+        standby: None,
+    };
+    check_slot(&rt, file, format!(in rt.alloc(); "data {MADE} -")?.as_str())?;
+    let marked = Slot {
+        main: Some(Main::File(made(), Some(BrickNo(1)))),
+        standby: None,
+    };
+    let words = format!(in rt.alloc(); "data {MADE} over 1 -")?;
+    check_slot(&rt, marked, words.as_str())?;
+    let dir = Slot {
+        main: Some(Main::Dir(made())),
+        standby: None,
+    };
+    check_slot(&rt, dir, format!(in rt.alloc(); "dir {MADE} -")?.as_str())?;
+    let value = Bytes::new(b"brick-0\0".to_vec(rt.alloc())?);
+    let linkto = Slot {
+        main: Some(Main::Linkto(value)),
+        standby: Some(Standby::StandLink(made())),
+    };
+    let words = format!(in rt.alloc(); "linkto x627269636b2d3000 link {MADE}")?;
+    check_slot(&rt, linkto, words.as_str())?;
+    let copy = Slot {
+        main: None,
+        standby: Some(Standby::Copy(made())),
+    };
+    check_slot(&rt, copy, format!(in rt.alloc(); "- copy {MADE}")?.as_str())?;
+    Ok(())
+}
+
+#[test]
+fn lines_of_files(rt: HostRuntime) -> Result<(), Fail> {
+    let live = RecordLine::Live {
+        hop: 0,
+        links: 1,
+        length: 2,
+        digest: [0xe3; 32],
+    };
+    check_file(
+        &rt,
+        live,
+        format!(in rt.alloc(); "live 0 1 2 {DIGEST}")?.as_str(),
+    )?;
+    let moving = RecordLine::Moving {
+        hop: 4,
+        links: 1,
+        length: 2,
+        digest: [0xe3; 32],
+        dest: BrickNo(7),
+    };
+    let words = format!(in rt.alloc(); "moving 4 1 2 {DIGEST} 7")?;
+    check_file(&rt, moving, words.as_str())?;
+    let standby = RecordLine::Standby {
+        hop: 5,
+        source: BrickNo(6),
+        length: 2,
+        digest: [0xe3; 32],
+        is_dirty: true,
+    };
+    let words = format!(in rt.alloc(); "standby 5 6 2 {DIGEST} dirty")?;
+    check_file(&rt, standby, words.as_str())?;
+    let forward = RecordLine::Forward {
+        brick: BrickNo(7),
+        hop: 5,
+    };
+    check_file(&rt, forward, "forward 7 5")?;
     Ok(())
 }
 

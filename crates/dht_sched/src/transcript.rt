@@ -1,40 +1,18 @@
-//! The lines of transcripts and of dumps, printed.
+//! The lines of transcripts, printed.
 
 ghost use Rattle.std.specs.Prelude.{◌≡◌, ◌++◌, ◌∷◌, [], List, OnOk, OnErr};
-ghost use Rattle.dht_sched.specs.Transcript.{request_word, reply_word, cause_word, line_text, lines_text, dump_text, dump_lines_text, malformed_text, usage_text};
+ghost use Rattle.dht_sched.specs.Transcript.{cause_word, line_text, lines_text, dump_text, dump_lines_text, malformed_text, usage_text};
 ghost use Rattle.dht_types.specs.declared.lines.Line.{Line};
 ghost use Rattle.dht_types.specs.declared.lines.DumpLine.{DumpLine};
 ghost use Rattle.dht_types.specs.declared.lines.Line.TheVariants.{Called, Stepped, Tree, Answered};
 
 use crate::fields::{Field, print_fields};
+use crate::kinds::{reply_word, request_word};
 use dht_types::calls::{Answer, Call, TreeStep};
 use dht_types::errors::errno_word;
 use dht_types::identifiers::{BrickNo, CallNo, ClientNo};
-use dht_types::lines::{Cause, DumpLine, Line, Refusal, ReplyKind, RequestKind};
+use dht_types::lines::{Cause, Line, ReplyKind, RequestKind};
 use std::alloc::AllocError;
-
-fn request_word(kind: RequestKind) -> &'static str
-    ensures { result.now ≡ request_word kind }
-{
-    match kind {
-        RequestKind::Lock => "lock",
-        RequestKind::Unlock => "unlock",
-        RequestKind::Look => "look",
-        RequestKind::Dirinfo => "dirinfo",
-        RequestKind::Create => "create",
-    }
-}
-
-fn reply_word(reply: ReplyKind) -> &'static str
-    ensures { result.now ≡ reply_word reply }
-{
-    match reply {
-        ReplyKind::Ok => "ok",
-        ReplyKind::Refused(Refusal::Nodir) => "refused:nodir",
-        ReplyKind::Refused(Refusal::Slot) => "refused:slot",
-        ReplyKind::NoMemory => "nomem",
-    }
-}
 
 fn cause_word(cause: Cause) -> &'static str
     ensures { result.now ≡ cause_word cause }
@@ -181,47 +159,6 @@ pub fn print_line(line: &Line, out: &mut Vec<u8>) -> Result<(), AllocError>
             let cause = Field::Word(cause_word(*cause));
             print_fields(out, "refused", &[Field::Number(*number), cause])
         }
-    }
-}
-
-/// Appends a line of what the bricks contain to `out`, with its newline. Where memory runs out, `out`
-/// stays as it was.
-#[tactic(auto, unfolding(crate::specs::Transcript::dump_text))]
-pub fn print_dump_line(line: &DumpLine, out: &mut Vec<u8>) -> Result<(), AllocError>
-    ensures ok { OnOk result (out.new.items ≡ out.old.items ++ dump_text line.now) }
-    ensures err { OnErr result (out.new.items ≡ out.old.items) }
-{
-    match line {
-        DumpLine::Brick(brick) => {
-            let brick = Field::Number(u64::from(brick.0));
-            print_fields(out, "brick", &[brick, Field::Word("up")])
-        }
-        DumpLine::Dir(brick, directory, layout) => {
-            let brick = Field::Number(u64::from(brick.0));
-            let directory = Field::Gfid(*directory);
-            print_fields(out, "dir", &[brick, directory, Field::Layout(*layout)])
-        }
-        DumpLine::Slot(brick, directory, name, file) => {
-            let brick = Field::Number(u64::from(brick.0));
-            let directory = Field::Gfid(*directory);
-            let file = Field::Gfid(*file);
-            let (data, none) = (Field::Word("data"), Field::Word("-"));
-            let words = [brick, directory, Field::Name(name), data, file, none];
-            print_fields(out, "slot", &words)
-        }
-        DumpLine::File(brick, file, hop, links, size, digest) => {
-            let brick = Field::Number(u64::from(brick.0));
-            let numbers = [
-                Field::Number(*hop),
-                Field::Number(*links),
-                Field::Number(*size),
-            ];
-            let [hop, links, size] = numbers;
-            let (file, live) = (Field::Gfid(*file), Field::Word("live"));
-            let words = [brick, file, live, hop, links, size, Field::Hex(digest)];
-            print_fields(out, "file", &words)
-        }
-        DumpLine::End => print_fields(out, "end", &[]),
     }
 }
 

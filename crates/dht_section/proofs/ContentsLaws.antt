@@ -1,6 +1,6 @@
 -- What a change of one key leaves in a brick's maps.
 use Rattle.std.proofs.Common.{◌≡◌, ◌≢◌, ℕ, Bool, true, false, refl, ap, ◌∙◌, cond}
-use Rattle.std.specs.Prelude.{Some, []}
+use Rattle.std.specs.Prelude.{Some, None, [], unwrap_or}
 use Rattle.std.specs.FinMap.{FinMap, get, insert, get-insert}
 use Rattle.std.specs.Ordering.{nat_cmp, eq_by_cmp, is_eq}
 use Rattle.std.specs.Cmp.{IsTotalOrder, nat_cmp_total, on_total, then_total, eq_by_cmp_equiv}
@@ -10,9 +10,12 @@ use Rattle.std.specs.declared.cmp.Ordering.TheVariants.{Less, Equal, Greater}
 use Rattle.std.proofs.lemmas.Map.Lookups.{CmpEqualImpliesEq, exact_unsigned, exact_bytes, exact_pairs}
 use Rattle.dht_types.specs.Gfid.{Entry}
 use Rattle.dht_types.specs.declared.identifiers.Gfid.{Gfid}
-use Rattle.dht_brick.specs.Contents.{Contents, FileRecord, gfid_cmp, entry_cmp, slot, file}
-use Rattle.dht_brick.specs.Rows.{added}
-use Rattle.dht_brick.specs.declared.requests.Main.TheVariants.{File}
+use Rattle.dht_types.specs.declared.stored.Main.TheVariants.{File}
+use Rattle.dht_types.specs.declared.stored.Slot.{Slot}
+use Rattle.dht_types.specs.declared.stored.Record.{Record}
+use Rattle.dht_types.specs.declared.stored.Record.TheVariants.{Live}
+use Rattle.dht_brick.specs.Contents.{Store, gfid_cmp, entry_cmp, slot, file, bare}
+use Rattle.dht_brick.specs.Parts.{with_main, with_slot, with_file}
 
 pub gfid_total : IsTotalOrder gfid_cmp
 gfid_total = on_total (λ (g : Gfid). g.0) nat_cmp_total
@@ -43,17 +46,24 @@ off_by exact m k v q false e ne = refl
 pub get_off : {K X : Type 0} {R : K → K → Ordering} → IsTotalOrder R → CmpEqualImpliesEq R → (m : FinMap R X) (k : K) (v : X) (q : K) → q ≢ k → get (insert m k v) q ≡ get m q
 get_off {K} {X} {R} o exact m k v q ne = get-insert o m k v q ∙ off_by exact m k v q (eq_by_cmp R q k) refl ne
 
-pub slot_at_new : (c : Contents) (e : Entry) (f : Gfid) → slot (added c e f) e ≡ Some (File f)
-slot_at_new c e f = get_at entry_total c.slots e (File f)
+-- a new, empty file, and the slot that is made for it
+abbrev pub new_file : Record
+new_file = Live 0 []
 
-pub slot_off_new : (c : Contents) (e : Entry) (f : Gfid) (q : Entry) → q ≢ e → slot (added c e f) q ≡ slot c q
-slot_off_new c e f q ne = get_off entry_total entry_exact c.slots e (File f) q ne
+abbrev pub new_slot : Store → Entry → Gfid → Slot
+new_slot s e f = with_main (slot s e) (File f None)
 
-abbrev pub new_file : FileRecord
-new_file = record { bytes = []; hop = 0 }
+abbrev pub added : Store → Entry → Gfid → Store
+added s e f = with_file (with_slot s e (new_slot s e f)) f new_file
 
-pub file_at_new : (c : Contents) (e : Entry) (f : Gfid) → file (added c e f) f ≡ Some new_file
-file_at_new c e f = get_at gfid_total c.files f new_file
+pub slot_at_new : (s : Store) (e : Entry) (f : Gfid) → slot (added s e f) e ≡ new_slot s e f
+slot_at_new s e f = ap (λ o. unwrap_or o bare) (get_at entry_total s.slots e (new_slot s e f))
 
-pub file_off_new : (c : Contents) (e : Entry) (f q : Gfid) → q ≢ f → file (added c e f) q ≡ file c q
-file_off_new c e f q ne = get_off gfid_total gfid_exact c.files f new_file q ne
+pub slot_off_new : (s : Store) (e : Entry) (f : Gfid) (q : Entry) → q ≢ e → slot (added s e f) q ≡ slot s q
+slot_off_new s e f q ne = ap (λ o. unwrap_or o bare) (get_off entry_total entry_exact s.slots e (new_slot s e f) q ne)
+
+pub file_at_new : (s : Store) (e : Entry) (f : Gfid) → file (added s e f) f ≡ Some new_file
+file_at_new s e f = get_at gfid_total s.files f new_file
+
+pub file_off_new : (s : Store) (e : Entry) (f q : Gfid) → q ≢ f → file (added s e f) q ≡ file s q
+file_off_new s e f q ne = get_off gfid_total gfid_exact s.files f new_file q ne

@@ -11,12 +11,13 @@ use Rattle.dht_types.specs.declared.identifiers.CallNo.{CallNo}
 use Rattle.dht_types.specs.declared.calls.TreeStep.{TreeStep}
 use Rattle.dht_types.specs.declared.calls.TreeStep.TheVariants.{AddFile}
 use Rattle.dht_brick.specs.Contents.{Contents}
+use Rattle.dht_brick.specs.Outcome.{Serves}
 use Rattle.dht_brick.specs.declared.requests.NameRequest.TheVariants.{Create}
 use Rattle.dht_brick.specs.declared.requests.Request.TheVariants.{OnNames}
-use Rattle.dht_brick.specs.declared.requests.Reply.{Reply}
+use Rattle.dht_brick.specs.declared.replies.Reply.{Reply}
 use Rattle.dht_brick.specs.declared.machines.Ask.{Ask}
-use Rattle.dht_section.specs.Scene.{Disk, Scene, Kept, Sound, Permitted, May, Wants, step_of, Changes, tree_by, deeds_by, Moved}
-use Rattle.dht_section.proofs.KeptLaws.{SameParts, Quiet, Adds, effect, SameDisk, SameTale, kept_same, Makes, NewTale, kept_new}
+use Rattle.dht_section.specs.Scene.{Disk, Scene, Kept, Sound, Permitted, May, Wants, step_of, Changes, tree_by, deeds_by, outcome_of, Moved}
+use Rattle.dht_section.proofs.KeptLaws.{Quiet, Adds, effect, SameDisk, kept_same, kept_new}
 
 -- the call of a gfid that a call made
 pub call_of-made : (run : ℕ) (c : ClientNo) (k : CallNo) (home : ℕ) → home < 2 ^ 16 → k.0 < 2 ^ 64 → call_of (made run c k home) ≡ k.0
@@ -31,11 +32,11 @@ pub record Tale (s t : Scene) : Type 0 where
   pub numbered : s.mine.number.0 ≤ s.story.calls
   pub small : s.mine.number.0 < 2 ^ 64
 
-same_disk : (d e : Disk) (b : ℕ) (new : Contents) → Changes d b new e → SameParts (d.brick b) new → SameDisk d e
+same_disk : (d e : Disk) (b : ℕ) (new : Contents) → Changes d b new e → new.store ≡ (d.brick b).store → SameDisk d e
 same_disk d e b new h same = record {
   count = h.count;
-  each = λ i. subst (λ (c : Contents). SameParts (d.brick i) c) (sym (ap (λ (g : ℕ → Contents). g i) h.brick))
-      (put_elim (SameParts (d.brick i)) nat_eq exact_nat d.brick b new i (λ q. subst (λ (j : ℕ). SameParts (d.brick j) new) (sym q) same) (λ ne. record { dirs = refl; slots = refl; files = refl }));
+  each = λ i. subst (λ (c : Contents). c.store ≡ (d.brick i).store) (sym (ap (λ (g : ℕ → Contents). g i) h.brick))
+      (put_elim (λ (c : Contents). c.store ≡ (d.brick i).store) nat_eq exact_nat d.brick b new i (λ q. subst (λ (j : ℕ). new.store ≡ (d.brick j).store) (sym q) same) (λ ne. refl));
 }
 
 mine_is : (s t : Scene) (c : ℕ) (r : Running) → Tale s t → t.story.running c ≡ Some r → c ≡ s.who.0 → r ≡ t.mine
@@ -72,7 +73,7 @@ added_kept s t a r m sound p h q =
     let number : call_of q.file ≡ s.mine.number.0 = ap call_of own.2 ∙ call_of-made s.story.run s.who s.mine.number own.0 own.1 h.small in
     let deeds : t.mine.deeds ≡ Some (deeds_after s.story.tree t.story.size s.mine.call s.mine.deeds (AddFile q.dir q.name q.file)) = m.deeds ∙ ap (deeds_by s t.story.size) q.step in
     kept_new s.disk t.disk s.story t.story a.brick.0 q.dir q.name q.file sound.kept
-    (record { there = p.there; changes = record { count = m.disk.count; brick = m.disk.brick ∙ ap (λ (c : Contents). put nat_eq s.disk.brick a.brick.0 c) q.new_is } })
+    (record { there = p.there; new = m.new; stored = q.new_is; changes = m.disk })
     may.1
     wants.fits
     (record {
@@ -88,14 +89,14 @@ added_kept s t a r m sound p h q =
     })
 
 pub kept_moved : (s t : Scene) (a : Ask) (r : Reply) (m : Moved s a r t) → Sound s → Permitted s a → Tale s t → Kept t.disk t.story
-kept_moved s t a r m sound p h = elim (effect s.who a.request (s.disk.brick a.brick.0) r m.new m.served) [
+kept_moved s t a r m sound p h = elim (effect _ s a.brick.0 a.request (s.disk.brick a.brick.0) r m.new p.may m.served) [
   | inl q ↦ quiet_kept s t a r m sound h q
   | inr q ↦ added_kept s t a r m sound p h q
 ]
 
 -- a step of the tree comes of a request that was permitted for it
-pub wants_of : (s t : Scene) (a : Ask) (r : Reply) (new : Contents) (step : TreeStep) → Rattle.dht_brick.specs.Rows.Serves s.who a.request (s.disk.brick a.brick.0) r new → Permitted s a → step_of a.request r ≡ Some step → Wants s step
-wants_of s t a r new step v p e = elim (effect s.who a.request (s.disk.brick a.brick.0) r new v) [
+pub wants_of : (s t : Scene) (a : Ask) (r : Reply) (new : Contents) (step : TreeStep) → Serves (outcome_of s a) (s.disk.brick a.brick.0) r new → Permitted s a → step_of a.request r ≡ Some step → Wants s step
+wants_of s t a r new step v p e = elim (effect _ s a.brick.0 a.request (s.disk.brick a.brick.0) r new p.may v) [
   | inl q ↦ absurd (let z : Some step ≡ None = sym e ∙ q.step in cc)
   | inr q ↦ (let may : May s a.brick.0 (OnNames (Create q.dir q.name q.file)) = subst (May s a.brick.0) q.request p.may in
       let z : Some (AddFile q.dir q.name q.file) ≡ Some step = sym q.step ∙ e in

@@ -9,18 +9,19 @@ use Rattle.dht_types.specs.Tree.{Tree, Node, IsFile}
 use Rattle.dht_types.specs.declared.identifiers.Gfid.{Gfid}
 use Rattle.dht_types.specs.declared.identifiers.BrickNo.{BrickNo}
 use Rattle.dht_types.specs.declared.locks.Mode.TheVariants.{Shared, Exclusive}
-use Rattle.dht_brick.specs.Contents.{dir}
-use Rattle.dht_brick.specs.Rows.{in_dir, slot_shown}
-use Rattle.dht_brick.specs.declared.requests.DirRecord.{DirRecord}
-use Rattle.dht_brick.specs.declared.requests.Main.{Main}
-use Rattle.dht_brick.specs.declared.requests.Main.TheVariants.{File}
+use Rattle.dht_types.specs.declared.stored.DirRecord.{DirRecord}
+use Rattle.dht_brick.specs.Contents.{Contents, dir, slot}
+use Rattle.dht_brick.specs.Looks.{look_of}
+use Rattle.dht_brick.specs.Outcome.{Outcome, Do, in_dir, within, reply_in}
+use Rattle.dht_brick.specs.Rows.{with_store}
+use Rattle.dht_brick.specs.declared.replies.Given.TheVariants as given
 use Rattle.dht_brick.specs.declared.requests.NameRequest.TheVariants.{Look}
 use Rattle.dht_brick.specs.declared.requests.Request.TheVariants.{OnNames}
-use Rattle.dht_brick.specs.declared.requests.Reply.{Reply}
+use Rattle.dht_brick.specs.declared.replies.Reply.{Reply}
 use Rattle.dht_brick.specs.declared.machines.Ask.{Ask}
 use Rattle.dht_xattr.specs.declared.range.Range.{Range}
-use Rattle.dht_section.specs.Replies.{is_no_memory, main_shown, range_shown}
-use Rattle.dht_section.specs.Scene.{Disk, slot_at, range_of, range_at, ranges_below, NameTruth, Scene, Sound, Moved}
+use Rattle.dht_section.specs.Replies.{is_no_memory, file_shown, range_shown}
+use Rattle.dht_section.specs.Scene.{Disk, file_in, name_at, range_of, range_at, ranges_below, NameTruth, Scene, Sound, Moved}
 use Rattle.dht_section.specs.Section.{entry_at, directory_key, name_key, lock_brick, section_asks, section_left, section_locks, section_location, section_stopped, stopped_location, stopped_locks, LocksBy, SectionKnows, seen, nothing_seen, found_then, lengthened, Truth, node_of, HasPlace, IsFresh, Locked, LockingKnows, LookingKnows, SawAt, HoldsName}
 use Rattle.dht_section.specs.SectionLaws.{bricks_are, lock_brick_is, truth_kept, below_same}
 use Rattle.dht_section.proofs.SceneLaws.{IsQuiet, row_reply, slot_moved, ranges_moved, lock_moved, lock_taken, deeds_quiet}
@@ -64,44 +65,47 @@ name_step l s t r sound after n h m =
     }
 
 -- every brick has a record of the root, and the root is in the tree
-pub in_dir_there : (o : Option DirRecord) (r : Reply) → is_some o ≡ true → in_dir o r ≡ r
-in_dir_there None r h = absurd (let e : false ≡ true = h in cc)
-in_dir_there (Some x) r h = refl
+pub in_dir_there : {A : Type 0} (o : Option DirRecord) (outcome : Outcome A) → is_some o ≡ true → in_dir o (λ x. outcome) ≡ outcome
+in_dir_there None outcome h = absurd (let e : false ≡ true = h in cc)
+in_dir_there (Some x) outcome h = refl
 
-pub root_there : (s : Scene) (g : Gfid) (b : ℕ) → Sound s → g ≡ root → b < s.disk.count → is_some (dir (s.disk.brick b) g) ≡ true
+pub root_there : (s : Scene) (g : Gfid) (b : ℕ) → Sound s → g ≡ root → b < s.disk.count → is_some (dir (s.disk.brick b).store g) ≡ true
 root_there s g b sound e l = sound.kept.roots b g l ∙ ap (λ x. same_gfid x root) e
 
 pub root_in_tree : (s : Scene) (g : Gfid) → Sound s → g ≡ root → s.story.tree.dirs g ≡ true
 root_in_tree s g sound e = ap s.story.tree.dirs e ∙ (sound.kept.stands.dirs root ∙ root_there s root 0 sound refl sound.kept.some_brick)
 
 -- a look at a name of the root shows the slot, and the range of the directory
-shown_there : (o : Option DirRecord) (m : Option Main) → is_some o ≡ true → main_shown (slot_shown o m) ≡ m
-shown_there None m h = absurd (let e : false ≡ true = h in cc)
-shown_there (Some x) m h = refl
+abbrev look_reply : Option DirRecord → Contents → Entry → Reply
+look_reply o c e = reply_in (within (with_store c) (in_dir o (λ x. Do (given.Look (look_of c.store e x)) c.store)))
 
-range_there : (o : Option DirRecord) (m : Option Main) → range_shown (slot_shown o m) ≡ range_of o
-range_there None m = refl
-range_there (Some x) m = refl
+shown_there : (o : Option DirRecord) (c : Contents) (e : Entry) → is_some o ≡ true → file_shown (look_reply o c e) ≡ file_in (slot c.store e)
+shown_there None c e h = absurd (let k : false ≡ true = h in cc)
+shown_there (Some x) c e h = refl
 
-pub look_shown : (g : Gfid) (n : List ℕ) (b : BrickNo) (s t : Scene) (r : Reply) → Sound s → g ≡ root → b.0 < s.disk.count → is_no_memory r ≡ false → Moved s (record { brick = b; request = OnNames (Look g n) }) r t → main_shown r ≡ slot_at s.disk b.0 (g, n)
-look_shown g n b s t r sound e l z m = ap main_shown (row_reply s t _ r m z) ∙ shown_there (dir (s.disk.brick b.0) g) (slot_at s.disk b.0 (g, n)) (root_there s g b.0 sound e l)
+range_there : (o : Option DirRecord) (c : Contents) (e : Entry) → range_shown (look_reply o c e) ≡ range_of o
+range_there None c e = refl
+range_there (Some x) c e = refl
+
+pub look_shown : (g : Gfid) (n : List ℕ) (b : BrickNo) (s t : Scene) (r : Reply) → Sound s → g ≡ root → b.0 < s.disk.count → is_no_memory r ≡ false → Moved s (record { brick = b; request = OnNames (Look g n) }) r t → file_shown r ≡ name_at s.disk b.0 (g, n)
+look_shown g n b s t r sound e l z m = ap file_shown (row_reply s t _ r m z) ∙ shown_there (dir (s.disk.brick b.0).store g) (s.disk.brick b.0) (g, n) (root_there s g b.0 sound e l)
 
 pub look_range : (g : Gfid) (n : List ℕ) (b : BrickNo) (s t : Scene) (r : Reply) → is_no_memory r ≡ false → Moved s (record { brick = b; request = OnNames (Look g n) }) r t → range_shown r ≡ range_at s.disk g b.0
-look_range g n b s t r z m = ap range_shown (row_reply s t _ r m z) ∙ range_there (dir (s.disk.brick b.0) g) (slot_at s.disk b.0 (g, n))
+look_range g n b s t r z m = ap range_shown (row_reply s t _ r m z) ∙ range_there (dir (s.disk.brick b.0).store g) (s.disk.brick b.0) (g, n)
 
 -- one more look
-truth_seen : (d : Disk) (x : Entry) (b : BrickNo) (found : Option Place) (o : Option Main) → b.0 < d.count → slot_at d b.0 x ≡ o → Truth d x b.0 found → Truth d x (b.0 + 1) (found_then found b o)
-truth_seen d x b None None l e t = λ i k. elim (cases_eq i b.0) [ inl q ↦ ap (λ (j : ℕ). slot_at d j x) q ∙ e | inr ne ↦ t i (omega arith) ]
+truth_seen : (d : Disk) (x : Entry) (b : BrickNo) (found : Option Place) (o : Option Gfid) → b.0 < d.count → name_at d b.0 x ≡ o → Truth d x b.0 found → Truth d x (b.0 + 1) (found_then found b o)
+truth_seen d x b None None l e t = λ i k. elim (cases_eq i b.0) [ inl q ↦ ap (λ (j : ℕ). name_at d j x) q ∙ e | inr ne ↦ t i (omega arith) ]
 truth_seen d x b (Some p) None l e t = t
-truth_seen d x b found (Some (File f)) l e t = (l, e)
+truth_seen d x b found (Some f) l e t = (l, e)
 
-look_truth : (l : Location) (b : BrickNo) (x : Seen) (s t : Scene) (r : Reply) → Sound s → is_no_memory r ≡ false → LookingKnows l b x s → Moved s (section_asks (Looking l b x)) r t → Truth t.disk (entry_at l) (b.0 + 1) (found_then x.place b (main_shown r))
+look_truth : (l : Location) (b : BrickNo) (x : Seen) (s t : Scene) (r : Reply) → Sound s → is_no_memory r ≡ false → LookingKnows l b x s → Moved s (section_asks (Looking l b x)) r t → Truth t.disk (entry_at l) (b.0 + 1) (found_then x.place b (file_shown r))
 look_truth l b x s t r sound z h m =
     let bricks = bricks_are l s sound h.fresh.place in
     let within = h.within in
     let here : b.0 < s.disk.count = omega arith in
-    truth_kept s.disk t.disk (entry_at l) (b.0 + 1) (found_then x.place b (main_shown r)) m.disk.count (slot_moved s t _ r m tt (entry_at l))
-    (truth_seen s.disk (entry_at l) b x.place (main_shown r) here (sym (look_shown l.directory l.name b s t r sound h.fresh.place.root here z m)) h.truth)
+    truth_kept s.disk t.disk (entry_at l) (b.0 + 1) (found_then x.place b (file_shown r)) m.disk.count (slot_moved s t _ r m tt (entry_at l))
+    (truth_seen s.disk (entry_at l) b x.place (file_shown r) here (sym (look_shown l.directory l.name b s t r sound h.fresh.place.root here z m)) h.truth)
 
 -- the ranges that were read are as many as the bricks that were looked at
 pub below_length : (d : Disk) (g : Gfid) (n : ℕ) → length (ranges_below d g n) ≡ n
@@ -135,7 +139,7 @@ look_read l b x s t r sound z h m =
     let bricks = bricks_are l s sound h.fresh.place in
     let within = h.within in
     let few = sound.kept.few in
-    read_more s.disk t.disk l.directory b.0 x.layout (range_shown r) (omega arith) h.read (look_range l.directory l.name b s t r z m) (ranges_moved s t _ r m l.directory)
+    read_more s.disk t.disk l.directory b.0 x.layout (range_shown r) (omega arith) h.read (look_range l.directory l.name b s t r z m) (ranges_moved s t _ r m tt l.directory)
 
 looked_locked : (l : Location) (b : BrickNo) (x : Seen) (s t : Scene) (r : Reply) → Locked l s → Moved s (section_asks (Looking l b x)) r t → Locked l t
 looked_locked l b x s t r h m = record {
@@ -148,18 +152,18 @@ look_step l b x next s t r sound z e k h m = record {
   fresh = fresh_moved l s t _ r tt h.fresh m;
   locked = looked_locked l b x s t r h.locked m;
   within = k;
-  truth = subst (λ (i : ℕ). Truth t.disk (entry_at l) i (found_then x.place b (main_shown r))) (sym e) (look_truth l b x s t r sound z h m);
+  truth = subst (λ (i : ℕ). Truth t.disk (entry_at l) i (found_then x.place b (file_shown r))) (sym e) (look_truth l b x s t r sound z h m);
   read = look_read l b x s t r sound z h m ∙ ap (ranges_below t.disk l.directory) (sym e);
 }
 
 -- what was found at all bricks is what the tree has
-node_none : (d : Disk) (x : Entry) (o : Option Node) → NameTruth d x o → ((b : ℕ) → b < d.count → slot_at d b x ≡ None) → o ≡ None
+node_none : (d : Disk) (x : Entry) (o : Option Node) → NameTruth d x o → ((b : ℕ) → b < d.count → name_at d b x ≡ None) → o ≡ None
 node_none d x None h k = refl
-node_none d x (Some (IsFile f)) h k = absurd (let w = h.0 in let e : Some (File f) ≡ None = sym w.2 ∙ k w.0 w.1 in cc)
+node_none d x (Some (IsFile f)) h k = absurd (let w = h.0 in let e : Some f ≡ None = sym w.2 ∙ k w.0 w.1 in cc)
 
-node_some : (d : Disk) (x : Entry) (o : Option Node) (b : ℕ) (f : Gfid) → NameTruth d x o → b < d.count → slot_at d b x ≡ Some (File f) → o ≡ Some (IsFile f)
-node_some d x None b f h l e = absurd (let k : None ≡ Some (File f) = sym (h b l) ∙ e in cc)
-node_some d x (Some (IsFile g)) b f h l e = let k : File f ≡ File g = h.1 b (File f) l e in cc
+node_some : (d : Disk) (x : Entry) (o : Option Node) (b : ℕ) (f : Gfid) → NameTruth d x o → b < d.count → name_at d b x ≡ Some f → o ≡ Some (IsFile f)
+node_some d x None b f h l e = absurd (let k : None ≡ Some f = sym (h b l) ∙ e in cc)
+node_some d x (Some (IsFile g)) b f h l e = let k : f ≡ g = h.1 b f l e in cc
 
 pub node_is : (s : Scene) (x : Entry) (found : Option Place) → Sound s → Truth s.disk x s.disk.count found → s.story.tree.names x ≡ node_of found
 node_is s x None sound h = node_none s.disk x (s.story.tree.names x) (sound.kept.stands.names x) h
@@ -177,9 +181,9 @@ saw_now l found at s sound g e h =
       node = ap (λ (p : Tree). p.names (entry_at l)) now ∙ h;
     }
 
-last_step : (l : Location) (b : BrickNo) (x : Seen) (at : ℕ) (s t : Scene) (r : Reply) → Sound s → Sound t → is_no_memory r ≡ false → l.bricks ≤ b.0 + 1 → at ≡ t.story.size → LookingKnows l b x s → Moved s (section_asks (Looking l b x)) r t → HoldsName (record { location = l; found = found_then x.place b (main_shown r); layout = lengthened x.layout (range_shown r); at = at }) t
+last_step : (l : Location) (b : BrickNo) (x : Seen) (at : ℕ) (s t : Scene) (r : Reply) → Sound s → Sound t → is_no_memory r ≡ false → l.bricks ≤ b.0 + 1 → at ≡ t.story.size → LookingKnows l b x s → Moved s (section_asks (Looking l b x)) r t → HoldsName (record { location = l; found = found_then x.place b (file_shown r); layout = lengthened x.layout (range_shown r); at = at }) t
 last_step l b x at s t r sound after z k e h m =
-    let found = found_then x.place b (main_shown r) in
+    let found = found_then x.place b (file_shown r) in
     let fresh = fresh_moved l s t _ r tt h.fresh m in
     let bricks = bricks_are l t after fresh.place in
     let within = h.within in

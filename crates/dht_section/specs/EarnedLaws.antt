@@ -8,7 +8,7 @@ use Rattle.dht_types.specs.declared.calls.Answer.{Answer}
 use Rattle.dht_types.specs.declared.calls.Answer.TheVariants.{File, Made, Fault}
 use Rattle.dht_types.specs.declared.errors.Errno.{Errno}
 use Rattle.dht_types.specs.declared.errors.Errno.TheVariants.{Enoent, Enomem, Eexist, Einval, Enametoolong, Estale}
-use Rattle.dht_brick.specs.declared.requests.Reply.{Reply}
+use Rattle.dht_brick.specs.declared.replies.Reply.{Reply}
 use Rattle.dht_brick.specs.declared.machines.Ask.{Ask}
 use Rattle.dht_brick.specs.declared.machines.Finish.{Finish}
 use Rattle.dht_section.specs.Scene.{Scene, Moved, Others, Earned}

@@ -3,21 +3,20 @@ use Rattle.std.specs.Prelude.{ℕ, ◌+◌, ◌-◌, ◌<◌, ◌≤◌, ◌≡�
 use Rattle.dht_types.specs.Gfid.{Entry, root, anchor}
 use Rattle.dht_types.specs.Tree.{Node, IsFile}
 use Rattle.dht_types.specs.declared.identifiers.BrickNo.{BrickNo}
+use Rattle.dht_types.specs.declared.identifiers.Gfid.{Gfid}
 use Rattle.dht_types.specs.declared.locks.Key.{Key}
 use Rattle.dht_types.specs.declared.locks.Key.TheVariants.{Dir, Entry as Name}
 use Rattle.dht_types.specs.declared.locks.Mode.TheVariants.{Shared, Exclusive}
 use Rattle.dht_hash.specs.DaviesMeyer.{dm}
 use Rattle.dht_xattr.specs.Layout.{holder}
 use Rattle.dht_xattr.specs.declared.range.Range.{Range}
-use Rattle.dht_brick.specs.declared.requests.Main.{Main}
-use Rattle.dht_brick.specs.declared.requests.Main.TheVariants.{File}
 use Rattle.dht_brick.specs.declared.requests.NameRequest.TheVariants.{Look}
 use Rattle.dht_brick.specs.declared.requests.Request.{Request}
 use Rattle.dht_brick.specs.declared.requests.Request.TheVariants.{Lock, Unlock, OnNames}
-use Rattle.dht_brick.specs.declared.requests.Reply.{Reply}
+use Rattle.dht_brick.specs.declared.replies.Reply.{Reply}
 use Rattle.dht_brick.specs.declared.machines.Ask.{Ask}
-use Rattle.dht_section.specs.Replies.{is_no_memory, main_shown, range_shown}
-use Rattle.dht_section.specs.Scene.{Disk, slot_at, lock_at, ranges_below, layout_of, Scene}
+use Rattle.dht_section.specs.Replies.{is_no_memory, file_shown, range_shown}
+use Rattle.dht_section.specs.Scene.{Disk, name_at, lock_at, ranges_below, layout_of, Scene}
 use Rattle.dht_section.specs.declared.section.Location.{Location}
 use Rattle.dht_section.specs.declared.section.Place.{Place}
 use Rattle.dht_section.specs.declared.section.Seen.{Seen}
@@ -82,12 +81,12 @@ outcome_locks (Stopping x) = stopped_locks x
 abbrev pub LocksBy : Request → List Key → List Key → Type 0
 LocksBy (Lock key mode) old new = new ≡ key ∷ old
 LocksBy (Unlock key) old new = old ≡ key ∷ new
-LocksBy (OnNames q) old new = new ≡ old
+LocksBy q old new = new ≡ old
 
 -- what was found after a look at one more brick
-abbrev pub found_then : Option Place → BrickNo → Option Main → Option Place
+abbrev pub found_then : Option Place → BrickNo → Option Gfid → Option Place
 found_then found b None = found
-found_then found b (Some (File f)) = Some (record { brick = b; file = f })
+found_then found b (Some f) = Some (record { brick = b; file = f })
 
 -- the ranges with one more; a layout has 32 at most
 abbrev pub lengthened : List (Option Range) → Option Range → List (Option Range)
@@ -95,7 +94,7 @@ lengthened ranges range = if nat_lt (length ranges) 32 then ranges ++ range ∷ 
 
 -- what was seen after a look at one more brick
 abbrev pub seen : Seen → BrickNo → Reply → Seen
-seen x b r = record { place = found_then x.place b (main_shown r); layout = lengthened x.layout (range_shown r) }
+seen x b r = record { place = found_then x.place b (file_shown r); layout = lengthened x.layout (range_shown r) }
 
 -- nothing was seen yet
 abbrev pub nothing_seen : Seen
@@ -113,8 +112,8 @@ held_holder h = holder h.layout (dm h.location.name)
 
 -- what was found at the bricks below the limit is what stands there
 abbrev pub Truth : Disk → Entry → ℕ → Option Place → Type 0
-Truth d e limit None = (b : ℕ) → b < limit → slot_at d b e ≡ None
-Truth d e limit (Some p) = (p.brick.0 < d.count) × (slot_at d p.brick.0 e ≡ Some (File p.file))
+Truth d e limit None = (b : ℕ) → b < limit → name_at d b e ≡ None
+Truth d e limit (Some p) = (p.brick.0 < d.count) × (name_at d p.brick.0 e ≡ Some p.file)
 
 -- what the tree has at a name that was found so
 abbrev pub node_of : Option Place → Option Node

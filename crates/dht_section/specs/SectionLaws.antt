@@ -9,7 +9,7 @@ use Rattle.dht_types.specs.declared.identifiers.Gfid.{Gfid}
 use Rattle.dht_types.specs.declared.locks.Key.{Key}
 use Rattle.dht_types.specs.declared.locks.Mode.{Mode}
 use Rattle.dht_types.specs.declared.locks.Mode.TheVariants.{Shared, Exclusive}
-use Rattle.dht_section.specs.Scene.{Disk, slot_at, lock_at, range_at, ranges_below, layout_of, Scene, Sound, Permitted, Others}
+use Rattle.dht_section.specs.Scene.{Disk, file_in, slot_at, lock_at, range_at, ranges_below, layout_of, Scene, Sound, Permitted, Others}
 use Rattle.dht_section.specs.Section.{entry_at, directory_key, name_key, lock_brick, section_asks, SectionKnows, Truth, HasPlace, IsFresh, Locked, SawAt, HoldsName}
 use Rattle.dht_section.specs.declared.section.Location.{Location}
 use Rattle.dht_section.specs.declared.section.Place.{Place}
@@ -71,8 +71,8 @@ locked_stable l s t h o = record { directory = lock_stable s t l.directory (dire
 
 -- the same slots at a name, the same truth
 pub truth_kept : (d e : Disk) (x : Entry) (limit : ℕ) (found : Option Place) → e.count ≡ d.count → ((b : ℕ) → slot_at e b x ≡ slot_at d b x) → Truth d x limit found → Truth e x limit found
-truth_kept d e x limit None c h t = λ b l. h b ∙ t b l
-truth_kept d e x limit (Some p) c h t = (let l = t.0 in omega arith, h p.brick.0 ∙ t.1)
+truth_kept d e x limit None c h t = λ b l. ap file_in (h b) ∙ t b l
+truth_kept d e x limit (Some p) c h t = (let l = t.0 in omega arith, ap file_in (h p.brick.0) ∙ t.1)
 
 pub truth_stable : (l : Location) (limit : ℕ) (found : Option Place) (s t : Scene) → Locked l s → Truth s.disk (entry_at l) limit found → Others s t → Truth t.disk (entry_at l) limit found
 truth_stable l limit found s t k h o = truth_kept s.disk t.disk (entry_at l) limit found o.count (o.slots l.directory l.name k.name) h

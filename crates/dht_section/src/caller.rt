@@ -8,7 +8,7 @@ ghost use Rattle.dht_section.specs.Scene.{Scene, Sound, Moved, Permitted, Others
 ghost use Rattle.dht_section.specs.Begins.{Begins, IsInRoot};
 
 use dht_brick::machines::{Ask, Finish};
-use dht_brick::requests::Reply;
+use dht_brick::replies::Reply;
 use dht_types::calls::Call;
 use dht_types::identifiers::CallNo;
 use dht_types::volumes::Weights;

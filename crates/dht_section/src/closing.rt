@@ -10,7 +10,8 @@ ghost use Rattle.dht_section.specs.ClosingLaws.{closing_permitted, closing_stabl
 use super::machine::Machine;
 use super::section::{Location, Stopped};
 use dht_brick::machines::{Ask, Finish, Turn};
-use dht_brick::requests::{Reply, Request};
+use dht_brick::replies::Reply;
+use dht_brick::requests::Request;
 use dht_types::calls::Answer;
 use dht_types::errors::Errno;
 use dht_types::locks::Key;

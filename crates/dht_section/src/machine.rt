@@ -8,7 +8,7 @@ ghost use Rattle.dht_section.specs.Turns.{MatchTurn};
 ghost use Rattle.dht_section.specs.Scene.{Scene, Sound, Moved, Permitted, Others};
 
 use dht_brick::machines::{Ask, Turn};
-use dht_brick::requests::Reply;
+use dht_brick::replies::Reply;
 
 /// A program of requests. It learns from replies alone; `at` is the number of the line on which a
 /// reply stands, which it may hand out as the point of an answer.

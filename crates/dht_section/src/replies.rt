@@ -1,11 +1,13 @@
 //! What a program reads in a reply.
 
 ghost use Rattle.std.specs.Prelude.{◌≡◌};
-ghost use Rattle.dht_section.specs.Replies.{is_no_memory, main_shown, range_shown};
-ghost use Rattle.dht_section.specs.Scene.{range_of_value};
+ghost use Rattle.dht_section.specs.Replies.{is_no_memory, file_shown, range_shown};
+ghost use Rattle.dht_section.specs.Scene.{file_of_main, range_of_value};
 
-use dht_brick::requests::{Given, Main, Reply};
-use dht_types::lines::LayoutValue;
+use dht_brick::replies::{Given, Reply};
+use dht_types::bytes::Bytes;
+use dht_types::identifiers::Gfid;
+use dht_types::stored::Main;
 use dht_xattr::range::{Range, decode};
 
 /// Whether the brick had no memory for the request.
@@ -14,32 +16,38 @@ pub fn is_no_memory(reply: &Reply) -> bool
 {
     match reply {
         Reply::NoMemory => true,
-        Reply::Ok(_) => false,
-        Reply::Refused(_) => false,
+        _ => false,
     }
 }
 
-/// The main part of the slot that a look found. A brick that has no record of the directory has no
-/// name of it.
-pub fn main_shown(reply: &Reply) -> Option<Main>
-    ensures { result ≡ main_shown reply.now }
+/// The file of a main part, if it is a file.
+fn file_of_main(main: &Option<Main>) -> Option<Gfid>
+    ensures { result ≡ file_of_main main.now }
+{
+    match main {
+        Some(Main::File(file, _)) => Some(*file),
+        _ => None,
+    }
+}
+
+/// The file that a look found at the name. A brick that has no record of the directory has no name
+/// of it.
+pub fn file_shown(reply: &Reply) -> Option<Gfid>
+    ensures { result ≡ file_shown reply.now }
 {
     match reply {
-        Reply::Ok(Given::Slot(main, _)) => *main,
-        Reply::Ok(Given::Nothing) => None,
-        Reply::Ok(Given::Dir(_)) => None,
-        Reply::Refused(_) => None,
-        Reply::NoMemory => None,
+        Reply::Ok(Given::Look(look)) => file_of_main(&look.slot.main),
+        _ => None,
     }
 }
 
 /// The range of hashes that an attribute gives a brick, if it gives one.
 #[tactic(auto, unfolding(crate::specs::Scene::range_of_value))]
-fn range_of(value: &Option<LayoutValue>) -> Option<Range>
+fn range_of(value: &Option<Bytes>) -> Option<Range>
     ensures { result ≡ range_of_value value.now }
 {
     match value {
-        Some(value) => decode(&value.0),
+        Some(value) => decode(value.as_slice()),
         None => None,
     }
 }
@@ -49,10 +57,8 @@ pub fn range_shown(reply: &Reply) -> Option<Range>
     ensures { result ≡ range_shown reply.now }
 {
     match reply {
-        Reply::Ok(Given::Slot(_, value)) => range_of(value),
-        Reply::Ok(Given::Dir(record)) => range_of(&record.value),
-        Reply::Ok(Given::Nothing) => None,
-        Reply::Refused(_) => None,
-        Reply::NoMemory => None,
+        Reply::Ok(Given::Look(look)) => range_of(&look.value),
+        Reply::Ok(Given::Dirinfo(info)) => range_of(&info.value),
+        _ => None,
     }
 }

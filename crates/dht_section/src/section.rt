@@ -9,9 +9,10 @@ ghost use Rattle.dht_section.specs.Section.{lock_brick, found_then, lengthened, 
 ghost use Rattle.dht_section.specs.SectionLaws.{section_permitted, section_stable};
 
 use super::machine::Machine;
-use super::replies::{is_no_memory, main_shown, range_shown};
+use super::replies::{file_shown, is_no_memory, range_shown};
 use dht_brick::machines::{Ask, Turn};
-use dht_brick::requests::{Main, NameRequest, Reply, Request};
+use dht_brick::replies::Reply;
+use dht_brick::requests::{NameRequest, Request};
 use dht_hash::dm_hash;
 use dht_types::identifiers::{BrickNo, Gfid};
 use dht_types::locks::{Key, Mode};
@@ -94,11 +95,11 @@ pub enum Outcome {
 }
 
 /// What was found after a look at one more brick.
-fn find(found: Option<Place>, brick: BrickNo, main: Option<Main>) -> Option<Place>
-    ensures { result ≡ found_then found brick main }
+fn find(found: Option<Place>, brick: BrickNo, file: Option<Gfid>) -> Option<Place>
+    ensures { result ≡ found_then found brick file }
 {
-    match main {
-        Some(Main::File(file)) => Some(Place { brick, file }),
+    match file {
+        Some(file) => Some(Place { brick, file }),
         None => found,
     }
 }
@@ -131,7 +132,7 @@ impl Seen {
         ensures { result ≡ seen self.now brick reply.now }
     {
         Seen {
-            place: find(self.place, brick, main_shown(reply)),
+            place: find(self.place, brick, file_shown(reply)),
             layout: lengthen(self.layout, range_shown(reply)),
         }
     }

@@ -1,5 +1,6 @@
 pub mod PutLaws
 pub mod StoryLaws
+pub mod ContentLemmas
 pub mod HexLemmas
 pub mod TextLemmas
 pub mod NameLemmas

@@ -9,3 +9,7 @@ pub mod Text
 pub mod Cost
 pub mod Entry
 pub mod Volume
+pub mod Content
+pub mod Faults
+pub mod Linkto
+pub mod Saved

@@ -14,9 +14,9 @@ use Rattle.dht_types.specs.declared.calls.Answer.TheVariants.{File, Made, Fault}
 use Rattle.dht_types.specs.declared.calls.TreeStep.{TreeStep}
 use Rattle.dht_types.specs.declared.calls.TreeStep.TheVariants.{AddFile}
 use Rattle.dht_types.specs.declared.lines.RequestKind.{RequestKind}
-use Rattle.dht_types.specs.declared.lines.RequestKind.TheVariants.{Lock, Unlock, Look, Dirinfo, Create}
+use Rattle.dht_types.specs.declared.lines.RequestKind.TheVariants.{Create}
 use Rattle.dht_types.specs.declared.lines.ReplyKind.{ReplyKind}
-use Rattle.dht_types.specs.declared.lines.ReplyKind.TheVariants.{Ok as Carried, Refused as Declined, NoMemory}
+use Rattle.dht_types.specs.declared.lines.ReplyKind.TheVariants.{Ok as Carried}
 use Rattle.dht_types.specs.declared.lines.Line.{Line}
 use Rattle.dht_types.specs.declared.lines.Line.TheVariants.{Volume, Called, Stepped, Tree as Changed, Answered, Refused}
 
@@ -130,15 +130,15 @@ changes_after s (Changed k step) = slots_by s step s.owed
 changes_after s (Answered k c j a) = s.changes
 changes_after s (Refused n cause) = s.changes
 
+-- a request was carried out
+abbrev pub is_carried : ReplyKind → Bool
+is_carried Carried = true
+is_carried r = false
+
 -- the requests that change the tree, where they are carried out
 abbrev pub is_change : RequestKind → ReplyKind → Bool
-is_change Create Carried = true
-is_change Create (Declined why) = false
-is_change Create NoMemory = false
-is_change Lock r = false
-is_change Unlock r = false
-is_change Look r = false
-is_change Dirinfo r = false
+is_change Create r = is_carried r
+is_change q r = false
 
 abbrev pub owed_if : Bool → Owed → Option Owed
 owed_if true o = Some o
@@ -230,10 +230,7 @@ IsOwn run c k g = (home : ℕ) × (home < 2 ^ 16) × (g ≡ made run c k home)
 -- the step is of the kind that a request stands for
 abbrev pub IsOf : RequestKind → TreeStep → Type 0
 IsOf Create (AddFile d n f) = Unit {0}
-IsOf Lock step = ⊥
-IsOf Unlock step = ⊥
-IsOf Look step = ⊥
-IsOf Dirinfo step = ⊥
+IsOf q step = ⊥
 
 -- this is what the tree says to the call at point j, where it says to do nothing; or the answer to the very steps that the call did, the first of them at line j
 abbrev pub Tells : Story → Call → Option Deeds → ℕ → Answer → Type 0

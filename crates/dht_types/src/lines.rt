@@ -1,18 +1,58 @@
 //! The lines of a transcript.
 
+use super::bytes::Bytes;
 use super::calls::{Answer, Call, TreeStep};
 use super::identifiers::{BrickNo, CallNo, ClientNo, Gfid};
 use super::names::Name;
+use super::stored::Slot;
 use super::volumes::Weights;
 
 /// The kind of a request to a brick.
 #[derive(Clone, Copy, Debug, PartialEq, Eq)]
 pub enum RequestKind {
+    // locks, registrations and seals
     Lock,
     Unlock,
+    Register,
+    Unregister,
+    Seal,
+    // directories and names
     Look,
+    Page,
     Dirinfo,
+    SetLayout,
+    MakeDir,
+    DropDir,
     Create,
+    MakeLinkto,
+    DropLinkto,
+    Unlink,
+    Link,
+    LinkOver,
+    Contest,
+    Uncontest,
+    StandLink,
+    DropStandLink,
+    Swap,
+    PromoteLink,
+    Orphans,
+    // files
+    Read,
+    Write,
+    LockedWrite,
+    Truncate,
+    LockedTruncate,
+    Stat,
+    Mark,
+    Unmark,
+    MakeStandby,
+    StandbyWrite,
+    CopyWrite,
+    ClearDirty,
+    DropStandby,
+    Demote,
+    Promote,
+    Drop,
 }
 
 /// Why a brick refused a request.
@@ -22,6 +62,26 @@ pub enum Refusal {
     Nodir,
     /// The slot, or a file record that the request names, is not as it has to be.
     Slot,
+    /// A name stands in the directory.
+    NotEmpty,
+    /// The brick has no record of the file.
+    Absent,
+    /// The file is here.
+    Live,
+    /// The file is here, and is being copied to another brick.
+    Moving,
+    /// A copy of the file is here.
+    Standby,
+    /// The file was moved on to another brick.
+    Forward,
+    /// The file has links, or not the one that it has to have.
+    Links,
+    /// A writer has changed the copy.
+    Dirty,
+    /// The file is sealed: it can be opened no more.
+    Sealed,
+    /// The file is open.
+    Open,
 }
 
 /// The kind of a brick's reply.
@@ -31,6 +91,12 @@ pub enum ReplyKind {
     Ok,
     /// It was refused.
     Refused(Refusal),
+    /// Another client holds the lock.
+    Wait,
+    /// The brick is down, and nothing was done.
+    Down,
+    /// The brick failed, and nothing was done.
+    Failed,
     /// The brick had no memory for it, and nothing was done.
     NoMemory,
 }
@@ -61,21 +127,50 @@ pub enum Line {
     Refused(u64, Cause),
 }
 
-/// The 16 bytes of a directory's attribute `trusted.glusterfs.dht`: its range on one brick.
-#[derive(Clone, Copy, Debug, PartialEq, Eq)]
-pub struct LayoutValue(pub [u8; 16]);
+/// What a dump tells of a file's record. A digest is the SHA-256 of the bytes.
+#[derive(Clone, Copy, Debug)]
+pub enum RecordLine {
+    /// The file.
+    Live {
+        hop: u64,
+        links: u64,
+        length: u64,
+        digest: [u8; 32],
+    },
+    /// The file while it is copied to another brick.
+    Moving {
+        hop: u64,
+        links: u64,
+        length: u64,
+        digest: [u8; 32],
+        dest: BrickNo,
+    },
+    /// A copy of it.
+    Standby {
+        hop: u64,
+        source: BrickNo,
+        length: u64,
+        digest: [u8; 32],
+        is_dirty: bool,
+    },
+    /// That it was moved on.
+    Forward {
+        brick: BrickNo,
+        hop: u64,
+    },
+}
 
 /// A line of what the bricks contain in the end.
-#[derive(Clone, Copy, Debug)]
+#[derive(Debug, Drop)]
 pub enum DumpLine {
-    /// What follows is of this brick, which is up.
-    Brick(BrickNo),
+    /// What follows is of this brick. Whether it is up.
+    Brick(BrickNo, bool),
     /// A directory's record, with its attribute.
-    Dir(BrickNo, Gfid, Option<LayoutValue>),
-    /// A name of a directory, which is this file's.
-    Slot(BrickNo, Gfid, Name, Gfid),
-    /// A file's record: its hops, its links, its length and the SHA-256 of its bytes.
-    File(BrickNo, Gfid, u64, u64, u64, [u8; 32]),
+    Dir(BrickNo, Gfid, Option<Bytes>),
+    /// A name of a directory, and what stands there.
+    Slot(BrickNo, Gfid, Name, Slot),
+    /// A file's record.
+    File(BrickNo, Gfid, RecordLine),
     /// The dump is whole.
     End,
 }

@@ -6,6 +6,7 @@ ghost use Rattle.std.specs.Option.{option_copied};
 ghost use Rattle.std.specs.Result.{result_err};
 ghost use Rattle.dht_types.specs.Volume.{VolumeInfo, IsVolume, fault_of, replay_fault_of, replay_info, replay_name, replay_names, is_brick_byte, is_brick_name, are_distinct, is_count, is_light, is_positive, are_weights, late_fault_of};
 
+use super::bytes::Bytes;
 use super::identifiers::BrickNo;
 use std::alloc::{AllocError, AllocFailed, Global};
 use std::marker::Model;
@@ -53,45 +54,6 @@ impl Weights {
         ensures { IfOk result (λ w. w ≡ self.now) }
     {
         Ok(Weights {
-            each: self.each.as_slice().to_vec(alloc)?,
-        })
-    }
-}
-
-/// A text of bytes. Contracts see it as their list.
-#[derive(Debug, Drop)]
-pub struct Bytes {
-    each: Vec<u8>,
-}
-
-impl Model for Bytes {
-    ghost use Rattle.std.specs.Prelude.{ℕ, List};
-
-    ghost Value = { List ℕ };
-
-    ghost view = { λ b. b.each.items };
-}
-
-impl Bytes {
-    /// These bytes.
-    pub fn new(each: Vec<u8>) -> Bytes
-        ensures { result ≡ each.items }
-    {
-        Bytes { each }
-    }
-
-    /// Each byte.
-    pub fn as_slice(&self) -> &[u8]
-        ensures { result.now ≡ self.now }
-    {
-        self.each.as_slice()
-    }
-
-    /// The same bytes again.
-    pub fn copied(&self, alloc: Global) -> Result<Bytes, AllocError>
-        ensures { IfOk result (λ b. b ≡ self.now) }
-    {
-        Ok(Bytes {
             each: self.each.as_slice().to_vec(alloc)?,
         })
     }
@@ -320,6 +282,17 @@ impl Volume {
             names: replay_names(alloc, count)?,
             weights: weights.copied(alloc)?,
             run,
+        })
+    }
+
+    /// The same volume again.
+    pub fn copied(&self, alloc: Global) -> Result<Volume, AllocError>
+        ensures { IfOk result (λ v. v ≡ self.now) }
+    {
+        Ok(Volume {
+            names: copied(alloc, &self.names)?,
+            weights: self.weights.copied(alloc)?,
+            run: self.run,
         })
     }
 

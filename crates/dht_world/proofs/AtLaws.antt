@@ -5,6 +5,7 @@ use Rattle.dht_types.specs.Put.{put}
 use Rattle.dht_types.proofs.PutLaws.{put_same, put_other, exact_nat}
 use Rattle.dht_types.specs.Gfid.{call_of}
 use Rattle.dht_types.specs.Cost.{cost}
+use Rattle.dht_types.specs.Volume.{replay_names}
 use Rattle.dht_types.specs.Story.{Story, Running, told, told_all, start, story_of, LegalFrom}
 use Rattle.dht_types.proofs.StoryLaws.{told_more, told_append, legal_append, point_told}
 use Rattle.dht_types.specs.declared.identifiers.Gfid.{Gfid}
@@ -15,12 +16,13 @@ use Rattle.dht_types.specs.declared.lines.Cause.{Cause}
 use Rattle.dht_types.specs.declared.lines.Line.{Line}
 use Rattle.dht_types.specs.declared.lines.Line.TheVariants.{Called, Answered, Refused}
 use Rattle.dht_brick.specs.Contents.{Contents}
-use Rattle.dht_brick.specs.Rows.{Serves}
-use Rattle.dht_brick.specs.Kinds.{entry_of}
+use Rattle.dht_brick.specs.Named.{entry_of}
+use Rattle.dht_brick.specs.Outcome.{Serves}
+use Rattle.dht_brick.specs.Rows.{row}
 use Rattle.dht_brick.specs.declared.journal.JournalEntry.{JournalEntry}
 use Rattle.dht_brick.specs.declared.machines.Ask.{Ask}
 use Rattle.dht_brick.specs.declared.machines.Finish.{Finish}
-use Rattle.dht_brick.specs.declared.requests.Reply.{Reply}
+use Rattle.dht_brick.specs.declared.replies.Reply.{Reply}
 use Rattle.dht_section.specs.Scene.{Disk, Scene, Kept, Sound, Others, Earned, Permitted, Moved, Changes}
 use Rattle.dht_section.specs.Begins.{Begins}
 use Rattle.dht_section.proofs.KeptLaws.{SameDisk, kept_same, nat_cases}
@@ -31,7 +33,7 @@ use Rattle.dht_world.proofs.LineLaws.{in_time_append, legal_lines, others_line}
 use Rattle.dht_world.proofs.WentLaws.{client, Sent, Went, went}
 
 pub same_disk : (d : Disk) → SameDisk d d
-same_disk d = record { count = refl; each = λ b. record { dirs = refl; slots = refl; files = refl } }
+same_disk d = record { count = refl; each = λ b. refl }
 
 -- a running call of another client there is none, so no call but the one client's is new
 no_other : (s : Story) (f : ℕ → Option Running) → ((c : ℕ) → c ≢ 0 → s.running c ≡ None) → (o : Option Running) → (c : ℕ) (r : Running) → put nat_eq s.running 0 o c ≡ Some r → (c ≡ 0) × (o ≡ Some r)
@@ -155,7 +157,7 @@ module _ {C : Type 0} (number : C → ClientNo) (is_busy : C → Bool) (knows_of
   number_is : (k : CallNo) (m : CallNo) → m.0 ≡ k.0 → m ≡ k
   number_is k m h = ap (λ (n : ℕ). let x : CallNo = record { 0 = n } in x) h
 
-  pub advance : (asks : C → Ask) (permitted : (c : C) (x : Scene) → Sound x → is_busy c ≡ true → knows_of c x → Permitted x (asks c)) (d e : Disk) (js ks : ℕ → List JournalEntry) (c : C) (ws : List ℕ) (run calls lines : ℕ) (past : List Line) (k : CallNo) (a : Ask) (r : Reply) (after : Contents) → is_busy c ≡ true → 0 < left c → a ≡ asks c → k.0 ≡ calls → lines < 2 ^ 64 → Serves client a.request (d.brick a.brick.0) r after → Changes d a.brick.0 after e → ks ≡ put nat_eq js a.brick.0 (js a.brick.0 ++ entry_of client k a.request r ∷ []) → At number is_busy knows_of left d js c ws run calls lines past → Advanced asks d (story_of past) c k a r e ks
+  pub advance : (asks : C → Ask) (permitted : (c : C) (x : Scene) → Sound x → is_busy c ≡ true → knows_of c x → Permitted x (asks c)) (d e : Disk) (js ks : ℕ → List JournalEntry) (c : C) (ws : List ℕ) (run calls lines : ℕ) (past : List Line) (k : CallNo) (a : Ask) (r : Reply) (after : Contents) → is_busy c ≡ true → 0 < left c → a ≡ asks c → k.0 ≡ calls → lines < 2 ^ 64 → Serves (row (replay_names d.count) client k a.request (d.brick a.brick.0)) (d.brick a.brick.0) r after → Changes d a.brick.0 after e → ks ≡ put nat_eq js a.brick.0 (js a.brick.0 ++ entry_of client k a.request r ∷ []) → At number is_busy knows_of left d js c ws run calls lines past → Advanced asks d (story_of past) c k a r e ks
   advance asks permitted d e js ks c ws run calls lines past k a r new busy some ea ek small served changes noted h =
       let s = story_of past in
       let f = h.fit in
@@ -179,7 +181,8 @@ module _ {C : Type 0} (number : C → ClientNo) (is_busy : C → Bool) (knows_of
         in_time = omega arith;
         permitted = rw ea (permitted c (scene d s client works.mine) before busy works.knows);
         new = new;
-        served = served;
+        served = subst (λ (x : CallNo). Serves (row (replay_names (length s.weights)) client x a.request (d.brick a.brick.0)) (d.brick a.brick.0) r new) (sym call_is)
+            (subst (λ (i : ℕ). Serves (row (replay_names i) client k a.request (d.brick a.brick.0)) (d.brick a.brick.0) r new) f.kept.counted served);
         changes = changes;
         journals = noted;
       } in

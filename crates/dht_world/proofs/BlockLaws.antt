@@ -12,7 +12,7 @@ use Rattle.dht_types.specs.declared.lines.Line.TheVariants.{Called, Stepped, Ans
 use Rattle.dht_brick.specs.Kinds.{kind_of, reply_kind}
 use Rattle.dht_brick.specs.declared.machines.Ask.{Ask}
 use Rattle.dht_brick.specs.declared.machines.Finish.{Finish}
-use Rattle.dht_brick.specs.declared.requests.Reply.{Reply}
+use Rattle.dht_brick.specs.declared.replies.Reply.{Reply}
 use Rattle.dht_section.specs.Scene.{step_of}
 use Rattle.dht_world.specs.Following.{Block, AreUnder, Head, IsStep}
 use Rattle.dht_world.specs.Lines.{tree_lines, request_lines}

@@ -15,19 +15,22 @@ use Rattle.dht_types.specs.declared.calls.TreeStep.TheVariants.{AddFile}
 use Rattle.dht_types.specs.declared.lines.RequestKind.TheVariants as kind
 use Rattle.dht_types.specs.declared.lines.Line.{Line}
 use Rattle.dht_types.specs.declared.lines.Line.TheVariants.{Stepped, Tree as Changed}
+use Rattle.dht_types.specs.declared.lines.ReplyKind.{ReplyKind}
 use Rattle.dht_brick.specs.Contents.{Contents}
-use Rattle.dht_brick.specs.Rows.{Serves}
-use Rattle.dht_brick.specs.Kinds.{kind_of, reply_kind, entry_of, named}
+use Rattle.dht_brick.specs.Kinds.{kind_of, file_kind, reply_kind}
+use Rattle.dht_brick.specs.Named.{entry_of, named}
+use Rattle.dht_brick.specs.Outcome.{Serves}
 use Rattle.dht_brick.specs.declared.journal.JournalEntry.{JournalEntry}
-use Rattle.dht_brick.specs.declared.requests.NameRequest.TheVariants.{Look, Dirinfo, Create}
+use Rattle.dht_brick.specs.declared.requests.FileRequest.{FileRequest}
+use Rattle.dht_brick.specs.declared.requests.FileRequest.TheVariants.{Read}
+use Rattle.dht_brick.specs.declared.requests.NameRequest.TheVariants.{Create}
 use Rattle.dht_brick.specs.declared.requests.Request.{Request}
-use Rattle.dht_brick.specs.declared.requests.Request.TheVariants.{Lock, Unlock, OnNames}
-use Rattle.dht_brick.specs.declared.requests.Given.{Given}
-use Rattle.dht_brick.specs.declared.requests.Why.TheVariants.{Nodir, Slot}
-use Rattle.dht_brick.specs.declared.requests.Reply.{Reply}
-use Rattle.dht_brick.specs.declared.requests.Reply.TheVariants.{Ok as Carried, Refused as Declined, NoMemory}
+use Rattle.dht_brick.specs.declared.requests.Request.TheVariants.{OnNames, OnFile}
+use Rattle.dht_brick.specs.declared.replies.Given.{Given}
+use Rattle.dht_brick.specs.declared.replies.Reply.{Reply}
+use Rattle.dht_brick.specs.declared.replies.Reply.TheVariants.{Ok as Carried}
 use Rattle.dht_brick.specs.declared.machines.Ask.{Ask}
-use Rattle.dht_section.specs.Scene.{Disk, Kept, Permitted, step_of, Changes, tree_by, deeds_by, Moved}
+use Rattle.dht_section.specs.Scene.{Disk, Kept, Permitted, step_of, Changes, tree_by, deeds_by, outcome_of, Moved}
 use Rattle.dht_section.proofs.MovedLaws.{Tale, wants_of}
 use Rattle.dht_world.specs.Bricks.{Logged, shown, changed_slots}
 use Rattle.dht_world.specs.Following.{InTimeFrom}
@@ -52,26 +55,17 @@ pub record IsMaking (q : Request) (r : Reply) : Type 0 where
   pub request : q ≡ OnNames (Create dir name file)
   pub reply : r ≡ Carried given
 
-plain : (q : Request) (r : Reply) → step_of q r ≡ None → is_change (kind_of q) (reply_kind r) ≡ false → IsPlain q r ⊎ IsMaking q r
-plain q r e f = inl (record { step = e; change = f })
+-- no request about a file changes the tree
+file_changes : (q : FileRequest) (r : ReplyKind) → is_change (file_kind q) r ≡ false
+file_changes (Read f offset size) r = refl
+file_changes q r = refl
 
 pub views : (q : Request) (r : Reply) → IsPlain q r ⊎ IsMaking q r
-views (Lock key mode) (Carried g) = plain (Lock key mode) (Carried g) refl refl
-views (Lock key mode) (Declined w) = plain (Lock key mode) (Declined w) refl refl
-views (Lock key mode) NoMemory = plain (Lock key mode) NoMemory refl refl
-views (Unlock key) (Carried g) = plain (Unlock key) (Carried g) refl refl
-views (Unlock key) (Declined w) = plain (Unlock key) (Declined w) refl refl
-views (Unlock key) NoMemory = plain (Unlock key) NoMemory refl refl
-views (OnNames (Look d n)) (Carried g) = plain (OnNames (Look d n)) (Carried g) refl refl
-views (OnNames (Look d n)) (Declined w) = plain (OnNames (Look d n)) (Declined w) refl refl
-views (OnNames (Look d n)) NoMemory = plain (OnNames (Look d n)) NoMemory refl refl
-views (OnNames (Dirinfo d)) (Carried g) = plain (OnNames (Dirinfo d)) (Carried g) refl refl
-views (OnNames (Dirinfo d)) (Declined w) = plain (OnNames (Dirinfo d)) (Declined w) refl refl
-views (OnNames (Dirinfo d)) NoMemory = plain (OnNames (Dirinfo d)) NoMemory refl refl
 views (OnNames (Create d n f)) (Carried g) = inr (record { dir = d; name = n; file = f; given = g; request = refl; reply = refl })
-views (OnNames (Create d n f)) (Declined Nodir) = plain (OnNames (Create d n f)) (Declined Nodir) refl refl
-views (OnNames (Create d n f)) (Declined (Slot m)) = plain (OnNames (Create d n f)) (Declined (Slot m)) refl refl
-views (OnNames (Create d n f)) NoMemory = plain (OnNames (Create d n f)) NoMemory refl refl
+views (OnFile q) (Carried g) = inl (record { step = refl; change = file_changes q _ })
+views (OnFile q) r = inl (record { step = refl; change = file_changes q _ })
+views q (Carried g) = inl (record { step = refl; change = refl })
+views q r = inl (record { step = refl; change = refl })
 
 -- what is known when a request is sent and served
 pub record Sent (d : Disk) (js : ℕ → List JournalEntry) (s : Story) (mine : Running) (k : CallNo) (a : Ask) (r : Reply) (e : Disk) (ks : ℕ → List JournalEntry) : Type 0 where
@@ -87,7 +81,7 @@ pub record Sent (d : Disk) (js : ℕ → List JournalEntry) (s : Story) (mine : 
   pub in_time : mine.steps < cost (length s.weights) mine.call
   pub permitted : Permitted (scene d s client mine) a
   pub new : Contents
-  pub served : Serves client a.request (d.brick a.brick.0) r new
+  pub served : Serves (outcome_of (scene d s client mine) a) (d.brick a.brick.0) r new
   pub changes : Changes d a.brick.0 new e
   pub journals : ks ≡ put nat_eq js a.brick.0 (js a.brick.0 ++ entry_of client k a.request r ∷ [])
 

@@ -5,7 +5,8 @@ ghost use Rattle.dht_section.specs.Scene.{step_of};
 ghost use Rattle.dht_world.specs.Lines.{request_lines};
 
 use dht_brick::machines::Ask;
-use dht_brick::requests::{NameRequest, Reply, Request};
+use dht_brick::replies::Reply;
+use dht_brick::requests::{NameRequest, Request};
 use dht_types::calls::TreeStep;
 use dht_types::identifiers::{CallNo, ClientNo};
 use dht_types::lines::Line;

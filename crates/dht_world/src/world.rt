@@ -4,8 +4,9 @@ ghost use Rattle.std.specs.Prelude.{◌≡◌, ◌+◌, ◌≤◌, ◌<◌, ◌^
 ghost use Rattle.dht_types.specs.Story.{story_of};
 ghost use Rattle.dht_types.specs.declared.lines.Line.{Line};
 ghost use Rattle.dht_xattr.specs.Plan.{HasWeight};
+ghost use Rattle.dht_brick.specs.Within.{MayBeSent};
 ghost use Rattle.dht_section.specs.Begins.{IsInRoot};
-ghost use Rattle.dht_world.specs.Bricks.{disk_of, journals_of, AreNewborn, ServedAt};
+ghost use Rattle.dht_world.specs.Bricks.{disk_of, journals_of, AreNewborn, AreReady, ServedAt};
 ghost use Rattle.dht_world.specs.World.{CanHappen};
 ghost use Rattle.dht_world.specs.Places.{IsAt, Advances};
 ghost use Rattle.dht_world.specs.Following.{Block};
@@ -13,7 +14,7 @@ ghost use Rattle.dht_world.specs.Following.{Block};
 use super::notes::{note, note_request};
 use dht_brick::brick::Brick;
 use dht_brick::machines::Ask;
-use dht_brick::requests::Reply;
+use dht_brick::replies::Reply;
 use dht_section::caller::Caller;
 use dht_types::calls::Call;
 use dht_types::events::Event;
@@ -49,10 +50,13 @@ fn serve_at<B: Brick>(
     call: CallNo,
     ask: &Ask,
 ) -> Result<Reply, AllocError>
-    requires { ask.now.brick.0 < vec_len bricks.old }
-    ensures ok { IfOk result (λ r. ServedAt B.contents B.journal client call ask.now bricks.old.items r bricks.new.items) }
-    ensures disk { OnErr result (disk_of B.contents bricks.new.items ≡ disk_of B.contents bricks.old.items) }
-    ensures journals { OnErr result (journals_of B.journal bricks.new.items ≡ journals_of B.journal bricks.old.items) }
+    requires there { ask.now.brick.0 < vec_len bricks.old }
+    requires ready { AreReady B.state bricks.old.items }
+    requires sent { MayBeSent (vec_len bricks.old) ask.now.request }
+    ensures ok { IfOk result (λ r. ServedAt B.state client call ask.now bricks.old.items r bricks.new.items) }
+    ensures disk { OnErr result (disk_of B.state bricks.new.items ≡ disk_of B.state bricks.old.items) }
+    ensures journals { OnErr result (journals_of B.state bricks.new.items ≡ journals_of B.state bricks.old.items) }
+    ensures ready { AreReady B.state bricks.new.items }
 {
     let brick = &mut bricks[usize::from(ask.brick.0)];
     brick.make_room()?;
@@ -61,16 +65,17 @@ fn serve_at<B: Brick>(
 
 impl<B: Brick, C: Caller> World<B, C> {
     /// The world of new bricks of these weights, in the first run, after the volume's line. Each brick
-    /// has the range of the root that is planned for it.
+    /// has the range of the root that is planned for it, is up, and does not fail.
     pub fn new(weights: Weights, bricks: Vec<B>, client: C) -> World<B, C>
-        requires newborn { AreNewborn weights (disk_of B.contents bricks.items) (journals_of B.journal bricks.items) }
+        requires newborn { AreNewborn weights (disk_of B.state bricks.items) (journals_of B.state bricks.items) }
+        requires ready { AreReady B.state bricks.items }
         requires counted { vec_len bricks ≡ length weights }
         requires heavy { HasWeight weights }
         requires some { 0 < length weights }
         requires few { length weights ≤ 32 }
         requires who { C.number client ≡ record { 0 = 0 } }
         requires idle { C.is_busy client ≡ false }
-        ensures at { IsAt B.contents B.journal C.number C.is_busy C.knows C.left result (Line.Volume weights ∷ []) }
+        ensures at { IsAt B.state C.number C.is_busy C.knows C.left result (Line.Volume weights ∷ []) }
         ensures lines { result.lines ≡ 1 }
     {
         World {
@@ -99,8 +104,8 @@ impl<B: Brick, C: Caller> World<B, C> {
         ensures lines { out.new.items ≡ out.old.items ++ Line.Refused line cause ∷ [] }
         ensures grows { self.new.lines ≤ self.old.lines + 3 }
         ensures at { (past : List Line)
-            → IsAt B.contents B.journal C.number C.is_busy C.knows C.left self.old past
-            → IsAt B.contents B.journal C.number C.is_busy C.knows C.left self.new (past ++ Line.Refused line cause ∷ []) }
+            → IsAt B.state C.number C.is_busy C.knows C.left self.old past
+            → IsAt B.state C.number C.is_busy C.knows C.left self.new (past ++ Line.Refused line cause ∷ []) }
     {
         note(out, Line::Refused(line, cause));
         self.lines += 1;
@@ -111,10 +116,10 @@ impl<B: Brick, C: Caller> World<B, C> {
         requires room { vec_len out.old + 3 ≤ vec_capacity out.old }
         requires few { self.old.lines + 3 < 2 ^ 64 }
         requires root { IsInRoot what.now }
-        requires at { (past : List Line) × IsAt B.contents B.journal C.number C.is_busy C.knows C.left self.old past }
+        requires at { (past : List Line) × IsAt B.state C.number C.is_busy C.knows C.left self.old past }
         ensures advances { (past : List Line)
-            → IsAt B.contents B.journal C.number C.is_busy C.knows C.left self.old past
-            → (lines : List Line) × (out.new.items ≡ out.old.items ++ lines) × Advances B.contents B.journal C.number C.is_busy C.knows C.left self.new line (Event.Call 0 what.now) past lines }
+            → IsAt B.state C.number C.is_busy C.knows C.left self.old past
+            → (lines : List Line) × (out.new.items ≡ out.old.items ++ lines) × Advances B.state C.number C.is_busy C.knows C.left self.new line (Event.Call 0 what.now) past lines }
         ensures grows { self.new.lines ≤ self.old.lines + 3 }
     {
         if !self.client.is_idle() {
@@ -131,13 +136,13 @@ impl<B: Brick, C: Caller> World<B, C> {
     fn step(&mut self, line: u64, out: &mut Vec<Line>) -> Result<(), AllocError>
         requires room { vec_len out.old + 3 ≤ vec_capacity out.old }
         requires few { self.old.lines + 3 < 2 ^ 64 }
-        requires at { (past : List Line) × IsAt B.contents B.journal C.number C.is_busy C.knows C.left self.old past }
+        requires at { (past : List Line) × IsAt B.state C.number C.is_busy C.knows C.left self.old past }
         ensures ok { OnOk result ((past : List Line)
-            → IsAt B.contents B.journal C.number C.is_busy C.knows C.left self.old past
-            → (lines : List Line) × (out.new.items ≡ out.old.items ++ lines) × Advances B.contents B.journal C.number C.is_busy C.knows C.left self.new line (Event.Step 0) past lines) }
+            → IsAt B.state C.number C.is_busy C.knows C.left self.old past
+            → (lines : List Line) × (out.new.items ≡ out.old.items ++ lines) × Advances B.state C.number C.is_busy C.knows C.left self.new line (Event.Step 0) past lines) }
         ensures err { OnErr result ((past : List Line)
-            → IsAt B.contents B.journal C.number C.is_busy C.knows C.left self.old past
-            → IsAt B.contents B.journal C.number C.is_busy C.knows C.left self.new past) }
+            → IsAt B.state C.number C.is_busy C.knows C.left self.old past
+            → IsAt B.state C.number C.is_busy C.knows C.left self.new past) }
         ensures none { OnErr result (out.new.items ≡ out.old.items) }
         ensures grows { self.new.lines ≤ self.old.lines + 3 }
     {
@@ -146,9 +151,12 @@ impl<B: Brick, C: Caller> World<B, C> {
             return Ok(());
         }
         let call = CallNo(self.calls);
-        let ask = self.client.next();
-        let reply = serve_at(&mut self.bricks, CLIENT, call, &ask)?;
-        self.lines += note_request(out, call, CLIENT, &ask, &reply);
+        let reply = {
+            let ask = self.client.next();
+            let reply = serve_at(&mut self.bricks, CLIENT, call, &ask)?;
+            self.lines += note_request(out, call, CLIENT, &ask, &reply);
+            reply
+        };
         if let Some(finish) = self.client.take(reply, self.lines) {
             note(out, Line::Answered(call, CLIENT, finish.at, finish.answer));
             self.lines += 1;
@@ -161,13 +169,13 @@ impl<B: Brick, C: Caller> World<B, C> {
     pub fn event(&mut self, event: &Event, line: u64, out: &mut Vec<Line>) -> Result<(), AllocError>
         requires can { CanHappen event.now }
         requires few { self.old.lines + 3 < 2 ^ 64 }
-        requires at { (past : List Line) × IsAt B.contents B.journal C.number C.is_busy C.knows C.left self.old past }
+        requires at { (past : List Line) × IsAt B.state C.number C.is_busy C.knows C.left self.old past }
         ensures ok { OnOk result ((past : List Line)
-            → IsAt B.contents B.journal C.number C.is_busy C.knows C.left self.old past
-            → (lines : List Line) × (out.new.items ≡ out.old.items ++ lines) × Advances B.contents B.journal C.number C.is_busy C.knows C.left self.new line event.now past lines) }
+            → IsAt B.state C.number C.is_busy C.knows C.left self.old past
+            → (lines : List Line) × (out.new.items ≡ out.old.items ++ lines) × Advances B.state C.number C.is_busy C.knows C.left self.new line event.now past lines) }
         ensures err { OnErr result ((past : List Line)
-            → IsAt B.contents B.journal C.number C.is_busy C.knows C.left self.old past
-            → IsAt B.contents B.journal C.number C.is_busy C.knows C.left self.new past) }
+            → IsAt B.state C.number C.is_busy C.knows C.left self.old past
+            → IsAt B.state C.number C.is_busy C.knows C.left self.new past) }
         ensures none { OnErr result (out.new.items ≡ out.old.items) }
         ensures grows { self.new.lines ≤ self.old.lines + 3 }
     {

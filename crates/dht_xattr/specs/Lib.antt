@@ -4,7 +4,6 @@ pub mod Layout
 pub mod LayoutLaws
 pub mod Faults
 pub mod FaultLaws
-pub mod Linkto
 pub mod LinktoLaws
 pub mod Padded
 pub mod Plan

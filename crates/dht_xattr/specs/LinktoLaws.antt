@@ -14,7 +14,7 @@ use Rattle.std.proofs.lemmas.List.Quantifiers.{position-Some}
 use Rattle.dht_types.specs.declared.identifiers.BrickNo.{BrickNo}
 use Rattle.dht_types.specs.Volume.{VolumeInfo, IsVolume, is_brick_byte, is_brick_name}
 use Rattle.dht_xattr.specs.LayoutLaws.{first_place}
-use Rattle.dht_xattr.specs.Linkto.{linkto_value, ends_in_zero, without_zero, linked_brick}
+use Rattle.dht_types.specs.Linkto.{linkto_value, ends_in_zero, without_zero, linked_brick}
 
 -- the place of a name of a volume
 pub place_of_name : (v : VolumeInfo) (b : ℕ) (name : List ℕ) → IsVolume v → slice_get v.names b ≡ Some name → position (λ other. bytes_eq other name) v.names ≡ Some b

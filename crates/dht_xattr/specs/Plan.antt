@@ -1,8 +1,8 @@
 -- How the hashes of a directory are shared among the bricks of a volume.
-use Rattle.std.specs.Prelude.{ℕ, zero, suc, ◌+◌, ◌*◌, ◌/◌, ◌%◌, ◌^◌, ◌<◌, ◌≡◌, ◌==◌, Any, if◌then◌else◌, Option, Some, None, List, [], ◌∷◌, ◌++◌, length, take, drop, sum, sum_by, position, slice_index}
+use Rattle.std.specs.Prelude.{ℕ, zero, suc, ◌+◌, ◌*◌, ◌/◌, ◌%◌, ◌^◌, ◌<◌, ◌≡◌, ◌==◌, Any, if◌then◌else◌, Option, Some, None, List, [], ◌∷◌, ◌++◌, length, take, drop, sum, sum_by, position, slice_index, slice_index_or}
 use Rattle.dht_types.specs.declared.identifiers.Gfid.{Gfid}
 use Rattle.dht_xattr.specs.declared.range.Range.{Range}
-use Rattle.dht_xattr.specs.Range.{IsRange}
+use Rattle.dht_xattr.specs.Range.{IsRange, encoded}
 
 -- some brick has weight
 abbrev pub HasWeight : List ℕ → Type 0
@@ -64,6 +64,15 @@ ranges_from weights bricks b (suc more) = range_of weights bricks (position (λ 
 -- the plan of a directory: the range of each brick
 unfoldable pub planned : List ℕ → Gfid → List (Option Range)
 planned weights dir = ranges_from weights (order weights dir) 0 (length weights)
+
+-- the attribute that says a range, where there is one
+abbrev pub value_of : Option Range → Option (List ℕ)
+value_of None = None
+value_of (Some r) = Some (encoded r)
+
+-- the attribute that is planned for a brick
+abbrev pub planned_value : List ℕ → Gfid → ℕ → Option (List ℕ)
+planned_value weights dir b = value_of (slice_index_or (planned weights dir) b None)
 
 -- a range that holds some hash, and that no run has settled
 pub record IsPlanned (r : Range) : Type 0 where

@@ -2,10 +2,11 @@
 
 ghost use Rattle.std.specs.Prelude.{◌≡◌, ◌<◌, ◌≤◌, ◌↔◌, Some, IfOk, IfSome, IsNone, Contains, ℕ, List, length, option_map, slice_get};
 ghost use Rattle.dht_types.specs.Volume.{VolumeInfo, IsVolume};
-ghost use Rattle.dht_xattr.specs.Linkto.{linkto_value, linked_brick, without_zero};
+ghost use Rattle.dht_types.specs.Linkto.{linkto_value, linked_brick, without_zero};
 
+use dht_types::bytes::Bytes;
 use dht_types::identifiers::BrickNo;
-use dht_types::volumes::{Bytes, Volume};
+use dht_types::volumes::Volume;
 use std::alloc::{AllocError, Global};
 
 /// The value of a linkto file that leads to a brick, as GlusterFS's attribute

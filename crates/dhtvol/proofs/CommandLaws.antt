@@ -1,10 +1,10 @@
 -- What the commands print, and how one ends that prints a text.
-use Rattle.std.proofs.Common.{◌≡◌, ℕ, ◌+◌, ◌<◌, ◌≤◌, List, [], ◌∷◌, ◌++◌, length, take, get_or, inl, inr, refl, sym, ap, ◌∙◌, append_assoc, append-nil, arith}
+use Rattle.std.proofs.Common.{◌≡◌, ℕ, ◌+◌, ◌<◌, List, [], ◌∷◌, ◌++◌, length, take, get_or, inl, refl, sym, ap, ◌∙◌, append_assoc, append-nil, arith}
 use Rattle.std.specs.Prelude.{Option}
 use Rattle.std.proofs.lemmas.List.{take_all, take_more, length-take}
 use Rattle.dht_xattr.specs.declared.range.Range.{Range}
 use Rattle.dht_sched.specs.Commands.{range_line}
-use Rattle.dht_world.specs.Bricks.{value_of}
+use Rattle.dht_xattr.specs.Plan.{value_of}
 use Rattle.dhtvol.specs.Commands.{ranges_text, IsPrinted}
 use Rattle.dhtvol.specs.Outside.{after_told}
 

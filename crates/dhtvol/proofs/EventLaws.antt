@@ -1,11 +1,10 @@
 -- Lines that are cut off, and the events that they are of.
-use Rattle.std.proofs.Common.{◌≡◌, ◌≢◌, ◌+◌, ◌≤◌, ◌<◌, ℕ, List, [], ◌∷◌, ◌++◌, zero, suc, refl, sym, ap, ◌∙◌, subst, inl, inr, length, get_or, arith, append_assoc, length-append}
-use Rattle.std.specs.Prelude.{Option, Some, None, IfSome, Contains, All, Result, Ok, Err}
+use Rattle.std.proofs.Common.{◌≡◌, ◌≢◌, ◌<◌, ℕ, List, [], ◌∷◌, ◌++◌, zero, suc, refl, sym, ap, ◌∙◌, subst, inl, inr, length, get_or, arith, append_assoc, length-append}
+use Rattle.std.specs.Prelude.{Option, Some, None, IfSome, Contains, Ok}
 use Rattle.dht_types.specs.declared.events.Event.{Event}
 use Rattle.dht_types.specs.declared.events.Event.TheVariants.{Volume, Call, Step}
 use Rattle.dht_sched.specs.Schedule.{schedule_text, IsScheduled, IsOneLine, IsReadOf}
-use Rattle.dht_sched.specs.declared.fault.LineFault.{LineFault}
-use Rattle.dhtvol.specs.Lines.{HasNoNewline, HasNoLine, IsWithinLimits}
+use Rattle.dhtvol.specs.Lines.{HasNoNewline, HasNoLine}
 use Rattle.dhtvol.specs.NextEvent.{HasNoEvent}
 use Rattle.dhtvol.specs.Outside.{before_told}
 use Rattle.dhtvol.proofs.ReplayLaws.{first_line}

@@ -1,41 +1,38 @@
 -- One event after another: what the loop over them keeps true, and how it ends.
-use Rattle.std.proofs.Common.{◌≡◌, ◌≢◌, ◌+◌, ◌≤◌, ◌<◌, ◌*◌, ◌^◌, ◌-◌, ℕ, List, [], ◌∷◌, ◌++◌, Bool, true, false, suc, zero, refl, sym, ap, ◌∙◌, subst, inl, inr, ◌⊎◌, length, take, arith, append_assoc, append-nil, length-append}
-use Rattle.std.specs.Prelude.{Option, Some, None, IfSome, IfOk, Ok, Err, Result, vec_len}
+use Rattle.std.proofs.Common.{◌≡◌, ◌+◌, ◌≤◌, ◌<◌, ℕ, List, [], ◌∷◌, ◌++◌, Bool, refl, sym, ap, ◌∙◌, subst, inl, inr, ◌⊎◌, length, take, arith}
+use Rattle.std.specs.Prelude.{Option, Some, None, IfSome, IfOk, Ok, Result}
 use Rattle.std.proofs.lemmas.List.{take_all}
 use Rattle.dht_types.specs.declared.identifiers.ClientNo.{ClientNo}
 use Rattle.dht_types.specs.declared.events.Event.{Event}
 use Rattle.dht_types.specs.declared.lines.Line.{Line}
-use Rattle.dht_brick.specs.Contents.{Contents}
-use Rattle.dht_brick.specs.declared.journal.JournalEntry.{JournalEntry}
+use Rattle.dht_brick.specs.Bricks.{BrickState}
 use Rattle.dht_section.specs.Scene.{Scene}
-use Rattle.dht_sched.specs.Transcript.{lines_text, dump_lines_text, malformed_text}
-use Rattle.dht_world.specs.Bricks.{disk_of, journals_of}
-use Rattle.dht_world.specs.Places.{IsAt, Advances}
+use Rattle.dht_sched.specs.Transcript.{lines_text}
+use Rattle.dht_world.specs.Places.{IsAt}
 use Rattle.dht_world.specs.declared.world.World.{World}
 use Rattle.dhtvol.specs.Lines.{Reader, input_of, HasNoNewline}
-use Rattle.dhtvol.specs.Outside.{before_told, after_told, IsAtEnd, HasFault}
-use Rattle.dhtvol.specs.Replay.{Replays, IsDone, StopsAtLine, StopsAtSource, IsCutShort, IsLast, EndsAs, IsMalformed, IsAfterFirst, dump_all}
+use Rattle.dht_types.specs.Faults.{HasFault}
+use Rattle.dhtvol.specs.Outside.{before_told, after_told, IsAtEnd}
+use Rattle.dhtvol.specs.Replay.{IsMalformed, IsAfterFirst}
 use Rattle.dhtvol.specs.SoFar.{Carried, SoFar, Reached, ReachedBad, Stopped, EndsSo, Wrote}
 use Rattle.dhtvol.specs.declared.ending.Ending.{Ending}
 use Rattle.dhtvol.specs.declared.ending.Ending.TheVariants.{Done, Usage, Malformed, SourceFailed, SinkFailed, OutOfMemory}
-use Rattle.dhtvol.proofs.Told.{after_told-after_told}
 use Rattle.dht_sched.specs.Schedule.{schedule_text, IsScheduled, IsOneLine}
 use Rattle.dhtvol.specs.NextEvent.{CutsEvent, HasNoEvent}
 use Rattle.dhtvol.specs.Replay.{schedule_of, MayCome}
-use Rattle.dhtvol.specs.declared.lines.TheConstants.{INPUT_LIMIT}
 use Rattle.dhtvol.proofs.FinishLaws.{written_front, written_all, IsCause}
 use Rattle.dhtvol.proofs.ReplayLaws.{carried_more, cut_more, lines_text-append, malformed_after, misplaced}
 
 -- one event more
-pub so_far_more : {B C : Type 0} (contents : B → Contents) (journal : B → List JournalEntry) (number : C → ClientNo) (is_busy : C → Bool) (knows_of : C → Scene → Type 0) (left : C → ℕ) (w v : World B C) (count : ℕ) (old new : Reader) (e : Event) (bl al : Option (List ℕ)) (taken told : Option (List ℕ)) → CutsEvent old new bl al e → IsAfterFirst e → v.lines ≤ w.lines + 3
-    → ((past : List Line) → IsAt contents journal number is_busy knows_of left w past → (lines : List Line) × Wrote contents journal number is_busy knows_of left v (count + 1) e past lines taken told (lines_text lines))
-    → (text before : Option (List ℕ)) → SoFar contents journal number is_busy knows_of left w count old text bl before taken → SoFar contents journal number is_busy knows_of left v (count + 1) new text al before told
-so_far_more contents journal number is_busy knows_of left w v count old new e bl al taken told cuts later grows wrote text before h =
+pub so_far_more : {B C : Type 0} (state : B → BrickState) (number : C → ClientNo) (is_busy : C → Bool) (knows_of : C → Scene → Type 0) (left : C → ℕ) (w v : World B C) (count : ℕ) (old new : Reader) (e : Event) (bl al : Option (List ℕ)) (taken told : Option (List ℕ)) → CutsEvent old new bl al e → IsAfterFirst e → v.lines ≤ w.lines + 3
+    → ((past : List Line) → IsAt state number is_busy knows_of left w past → (lines : List Line) × Wrote state number is_busy knows_of left v (count + 1) e past lines taken told (lines_text lines))
+    → (text before : Option (List ℕ)) → SoFar state number is_busy knows_of left w count old text bl before taken → SoFar state number is_busy knows_of left v (count + 1) new text al before told
+so_far_more state number is_busy knows_of left w v count old new e bl al taken told cuts later grows wrote text before h =
     let a = wrote h.lines h.carried.at in
     record {
       events = h.events ++ e ∷ [];
       lines = h.lines ++ a.0;
-      carried = carried_more contents journal number is_busy knows_of left w v count old new text bl al h.events h.lines a.0 e h.cut cuts later grows a.1.advances h.carried;
+      carried = carried_more state number is_busy knows_of left w v count old new text bl al h.events h.lines a.0 e h.cut cuts later grows a.1.advances h.carried;
       cut = cut_more old new bl al h.events e h.cut cuts;
       written = written_all before taken told (lines_text h.lines) (lines_text a.0) h.written a.1.written ∙ ap (after_told before) (sym (lines_text-append h.lines a.0));
     }
@@ -44,25 +41,25 @@ told_nothing : (x : Option (List ℕ)) → before_told [] x ≡ x
 told_nothing None = refl
 told_nothing (Some xs) = refl
 
-carried_from : {B C : Type 0} (contents : B → Contents) (journal : B → List JournalEntry) (number : C → ClientNo) (is_busy : C → Bool) (knows_of : C → Scene → Type 0) (left : C → ℕ) (w : World B C) (count : ℕ) (text a b : Option (List ℕ)) (events : List Event) (lines : List Line) → a ≡ b → Carried contents journal number is_busy knows_of left w count text a events lines → Carried contents journal number is_busy knows_of left w count text b events lines
-carried_from contents journal number is_busy knows_of left w count text a b events lines e h = subst (λ (o : Option (List ℕ)). Carried contents journal number is_busy knows_of left w count text o events lines) e h
+carried_from : {B C : Type 0} (state : B → BrickState) (number : C → ClientNo) (is_busy : C → Bool) (knows_of : C → Scene → Type 0) (left : C → ℕ) (w : World B C) (count : ℕ) (text a b : Option (List ℕ)) (events : List Event) (lines : List Line) → a ≡ b → Carried state number is_busy knows_of left w count text a events lines → Carried state number is_busy knows_of left w count text b events lines
+carried_from state number is_busy knows_of left w count text a b events lines e h = subst (λ (o : Option (List ℕ)). Carried state number is_busy knows_of left w count text o events lines) e h
 
 -- at the end of the input
-pub end_reached : {B C : Type 0} (contents : B → Contents) (journal : B → List JournalEntry) (number : C → ClientNo) (is_busy : C → Bool) (knows_of : C → Scene → Type 0) (left : C → ℕ) (w : World B C) (count : ℕ) (old new : Reader) (text bl al before taken : Option (List ℕ)) → input_of new al ≡ input_of old bl → new.pending ≡ [] → IsAtEnd (input_of old bl) → SoFar contents journal number is_busy knows_of left w count old text bl before taken → Reached contents journal number is_busy knows_of left w count text al before taken × IsAtEnd al
-end_reached contents journal number is_busy knows_of left w count old new text bl al before taken same none end h =
+pub end_reached : {B C : Type 0} (state : B → BrickState) (number : C → ClientNo) (is_busy : C → Bool) (knows_of : C → Scene → Type 0) (left : C → ℕ) (w : World B C) (count : ℕ) (old new : Reader) (text bl al before taken : Option (List ℕ)) → input_of new al ≡ input_of old bl → new.pending ≡ [] → IsAtEnd (input_of old bl) → SoFar state number is_busy knows_of left w count old text bl before taken → Reached state number is_busy knows_of left w count text al before taken × IsAtEnd al
+end_reached state number is_busy knows_of left w count old new text bl al before taken same none end h =
     let e : input_of old bl ≡ al = sym same ∙ (ap (λ xs. before_told xs al) none ∙ told_nothing al) in (
       record {
         events = h.events;
         lines = h.lines;
-        carried = carried_from contents journal number is_busy knows_of left w count text (input_of old bl) al h.events h.lines e h.carried;
+        carried = carried_from state number is_busy knows_of left w count text (input_of old bl) al h.events h.lines e h.carried;
         written = h.written;
       },
       subst IsAtEnd e end,
     )
 
 -- what comes next is no event that may come
-pub bad_reached : {B C : Type 0} (contents : B → Contents) (journal : B → List JournalEntry) (number : C → ClientNo) (is_busy : C → Bool) (knows_of : C → Scene → Type 0) (left : C → ℕ) (w : World B C) (count : ℕ) (old : Reader) (text bl before taken : Option (List ℕ)) (h : SoFar contents journal number is_busy knows_of left w count old text bl before taken) → IfSome (input_of old bl) (IsMalformed h.events) → ReachedBad contents journal number is_busy knows_of left w count text before taken
-bad_reached contents journal number is_busy knows_of left w count old text bl before taken h bad = record {
+pub bad_reached : {B C : Type 0} (state : B → BrickState) (number : C → ClientNo) (is_busy : C → Bool) (knows_of : C → Scene → Type 0) (left : C → ℕ) (w : World B C) (count : ℕ) (old : Reader) (text bl before taken : Option (List ℕ)) (h : SoFar state number is_busy knows_of left w count old text bl before taken) → IfSome (input_of old bl) (IsMalformed h.events) → ReachedBad state number is_busy knows_of left w count text before taken
+bad_reached state number is_busy knows_of left w count old text bl before taken h bad = record {
   events = h.events;
   lines = h.lines;
   input = input_of old bl;
@@ -75,26 +72,26 @@ no_event_comes : (events : List Event) (cut : ℕ) (input : Option (List ℕ)) �
 no_event_comes events cut None some e h = tt
 no_event_comes events cut (Some bytes) some e h = malformed_after events cut bytes some e h
 
-pub no_event_reached : {B C : Type 0} (contents : B → Contents) (journal : B → List JournalEntry) (number : C → ClientNo) (is_busy : C → Bool) (knows_of : C → Scene → Type 0) (left : C → ℕ) (w : World B C) (count : ℕ) (old : Reader) (text bl before taken : Option (List ℕ)) → IfSome (input_of old bl) (HasNoEvent old.cut) → SoFar contents journal number is_busy knows_of left w count old text bl before taken → ReachedBad contents journal number is_busy knows_of left w count text before taken
-no_event_reached contents journal number is_busy knows_of left w count old text bl before taken none h =
+pub no_event_reached : {B C : Type 0} (state : B → BrickState) (number : C → ClientNo) (is_busy : C → Bool) (knows_of : C → Scene → Type 0) (left : C → ℕ) (w : World B C) (count : ℕ) (old : Reader) (text bl before taken : Option (List ℕ)) → IfSome (input_of old bl) (HasNoEvent old.cut) → SoFar state number is_busy knows_of left w count old text bl before taken → ReachedBad state number is_busy knows_of left w count text before taken
+no_event_reached state number is_busy knows_of left w count old text bl before taken none h =
     let n = h.carried.counted in
     let some = h.carried.some in
-    bad_reached contents journal number is_busy knows_of left w count old text bl before taken h (no_event_comes h.events old.cut (input_of old bl) (omega arith) h.cut none)
+    bad_reached state number is_busy knows_of left w count old text bl before taken h (no_event_comes h.events old.cut (input_of old bl) (omega arith) h.cut none)
 
 -- a volume does not come behind the first line
-pub volume_reached : {B C : Type 0} (contents : B → Contents) (journal : B → List JournalEntry) (number : C → ClientNo) (is_busy : C → Bool) (knows_of : C → Scene → Type 0) (left : C → ℕ) (w : World B C) (count : ℕ) (old new : Reader) (e : Event) (text bl al before taken : Option (List ℕ)) → ((o : Event) → IsScheduled o → IsOneLine (schedule_text o)) → CutsEvent old new bl al e → ¬ IsAfterFirst e → SoFar contents journal number is_busy knows_of left w count old text bl before taken → ReachedBad contents journal number is_busy knows_of left w count text before taken
-volume_reached contents journal number is_busy knows_of left w count old new e text bl al before taken one cuts first h =
+pub volume_reached : {B C : Type 0} (state : B → BrickState) (number : C → ClientNo) (is_busy : C → Bool) (knows_of : C → Scene → Type 0) (left : C → ℕ) (w : World B C) (count : ℕ) (old new : Reader) (e : Event) (text bl al before taken : Option (List ℕ)) → ((o : Event) → IsScheduled o → IsOneLine (schedule_text o)) → CutsEvent old new bl al e → ¬ IsAfterFirst e → SoFar state number is_busy knows_of left w count old text bl before taken → ReachedBad state number is_busy knows_of left w count text before taken
+volume_reached state number is_busy knows_of left w count old new e text bl al before taken one cuts first h =
     let n = h.carried.counted in
     let some = h.carried.some in
-    bad_reached contents journal number is_busy knows_of left w count old text bl before taken h (misplaced h.events e (input_of old bl) (input_of new al) one cuts.scheduled (not_next h.events (omega arith)) cuts.only cuts.front)
+    bad_reached state number is_busy knows_of left w count old text bl before taken h (misplaced h.events e (input_of old bl) (input_of new al) one cuts.scheduled (not_next h.events (omega arith)) cuts.only cuts.front)
   where
     not_next : (events : List Event) → 0 < length events → MayCome events e → ⊥
     not_next [] more m = absurd (omega arith)
     not_next (x ∷ xs) more m = first m.1
 
 -- the run was cut short between two events
-pub stopped_here : {B C : Type 0} (contents : B → Contents) (journal : B → List JournalEntry) (number : C → ClientNo) (is_busy : C → Bool) (knows_of : C → Scene → Type 0) (left : C → ℕ) (w : World B C) (count : ℕ) (r : Reader) (text bl before taken : Option (List ℕ)) → SoFar contents journal number is_busy knows_of left w count r text bl before taken → Stopped contents journal number is_busy knows_of left w text before taken
-stopped_here contents journal number is_busy knows_of left w count r text bl before taken h = record {
+pub stopped_here : {B C : Type 0} (state : B → BrickState) (number : C → ClientNo) (is_busy : C → Bool) (knows_of : C → Scene → Type 0) (left : C → ℕ) (w : World B C) (count : ℕ) (r : Reader) (text bl before taken : Option (List ℕ)) → SoFar state number is_busy knows_of left w count r text bl before taken → Stopped state number is_busy knows_of left w text before taken
+stopped_here state number is_busy knows_of left w count r text bl before taken h = record {
   events = h.events;
   lines = h.lines;
   count = count;
@@ -105,38 +102,38 @@ stopped_here contents journal number is_busy knows_of left w count r text bl bef
 }
 
 -- why an event did not come
-pub none_came : {B C : Type 0} (contents : B → Contents) (journal : B → List JournalEntry) (number : C → ClientNo) (is_busy : C → Bool) (knows_of : C → Scene → Type 0) (left : C → ℕ) (w : World B C) (count : ℕ) (old new : Reader) (text bl al before taken : Option (List ℕ)) (ending : Ending)
+pub none_came : {B C : Type 0} (state : B → BrickState) (number : C → ClientNo) (is_busy : C → Bool) (knows_of : C → Scene → Type 0) (left : C → ℕ) (w : World B C) (count : ℕ) (old new : Reader) (text bl al before taken : Option (List ℕ)) (ending : Ending)
     → (ending ≡ Malformed → IfSome (input_of old bl) (HasNoEvent old.cut))
     → (ending ≡ SourceFailed → (input_of new al ≡ input_of old bl) × HasNoNewline new.pending)
     → (ending ≡ Done → ⊥) → (ending ≡ Usage → ⊥) → (ending ≡ SinkFailed → ⊥)
-    → SoFar contents journal number is_busy knows_of left w count old text bl before taken → EndsSo contents journal number is_busy knows_of left w count new text al before taken ending
-none_came contents journal number is_busy knows_of left w count old new text bl al before taken Done bad failed nd nu nk h = absurd (nd refl)
-none_came contents journal number is_busy knows_of left w count old new text bl al before taken Usage bad failed nd nu nk h = absurd (nu refl)
-none_came contents journal number is_busy knows_of left w count old new text bl al before taken SinkFailed bad failed nd nu nk h = absurd (nk refl)
-none_came contents journal number is_busy knows_of left w count old new text bl al before taken Malformed bad failed nd nu nk h = no_event_reached contents journal number is_busy knows_of left w count old text bl before taken (bad refl) h
-none_came contents journal number is_busy knows_of left w count old new text bl al before taken OutOfMemory bad failed nd nu nk h = stopped_here contents journal number is_busy knows_of left w count old text bl before taken h
-none_came contents journal number is_busy knows_of left w count old new text bl al before taken SourceFailed bad failed nd nu nk h = (let f = failed refl in (
+    → SoFar state number is_busy knows_of left w count old text bl before taken → EndsSo state number is_busy knows_of left w count new text al before taken ending
+none_came state number is_busy knows_of left w count old new text bl al before taken Done bad failed nd nu nk h = absurd (nd refl)
+none_came state number is_busy knows_of left w count old new text bl al before taken Usage bad failed nd nu nk h = absurd (nu refl)
+none_came state number is_busy knows_of left w count old new text bl al before taken SinkFailed bad failed nd nu nk h = absurd (nk refl)
+none_came state number is_busy knows_of left w count old new text bl al before taken Malformed bad failed nd nu nk h = no_event_reached state number is_busy knows_of left w count old text bl before taken (bad refl) h
+none_came state number is_busy knows_of left w count old new text bl al before taken OutOfMemory bad failed nd nu nk h = stopped_here state number is_busy knows_of left w count old text bl before taken h
+none_came state number is_busy knows_of left w count old new text bl al before taken SourceFailed bad failed nd nu nk h = (let f = failed refl in (
   record {
     events = h.events;
     lines = h.lines;
-    carried = carried_from contents journal number is_busy knows_of left w count text (input_of old bl) (input_of new al) h.events h.lines (sym f.0) h.carried;
+    carried = carried_from state number is_busy knows_of left w count text (input_of old bl) (input_of new al) h.events h.lines (sym f.0) h.carried;
     written = h.written;
   },
   f.1,
 ))
 
 -- the run was cut short while an event was carried out, or its lines were written
-pub stopped_in : {B C : Type 0} (contents : B → Contents) (journal : B → List JournalEntry) (number : C → ClientNo) (is_busy : C → Bool) (knows_of : C → Scene → Type 0) (left : C → ℕ) (w v : World B C) (count : ℕ) (old new : Reader) (e : Event) (text bl al before taken told : Option (List ℕ)) → CutsEvent old new bl al e → IsAfterFirst e → v.lines ≤ w.lines + 3
-    → ((past : List Line) → IsAt contents journal number is_busy knows_of left w past → (IsAt contents journal number is_busy knows_of left v past × (told ≡ taken)) ⊎ ((lines : List Line) × ((n : ℕ) × Wrote contents journal number is_busy knows_of left v (count + 1) e past lines taken told (take n (lines_text lines)))))
-    → SoFar contents journal number is_busy knows_of left w count old text bl before taken → Stopped contents journal number is_busy knows_of left v text before told
-stopped_in contents journal number is_busy knows_of left w v count old new e text bl al before taken told cuts later grows failed h = by (failed h.lines h.carried.at)
+pub stopped_in : {B C : Type 0} (state : B → BrickState) (number : C → ClientNo) (is_busy : C → Bool) (knows_of : C → Scene → Type 0) (left : C → ℕ) (w v : World B C) (count : ℕ) (old new : Reader) (e : Event) (text bl al before taken told : Option (List ℕ)) → CutsEvent old new bl al e → IsAfterFirst e → v.lines ≤ w.lines + 3
+    → ((past : List Line) → IsAt state number is_busy knows_of left w past → (IsAt state number is_busy knows_of left v past × (told ≡ taken)) ⊎ ((lines : List Line) × ((n : ℕ) × Wrote state number is_busy knows_of left v (count + 1) e past lines taken told (take n (lines_text lines)))))
+    → SoFar state number is_busy knows_of left w count old text bl before taken → Stopped state number is_busy knows_of left v text before told
+stopped_in state number is_busy knows_of left w v count old new e text bl al before taken told cuts later grows failed h = by (failed h.lines h.carried.at)
   where
-    by : (IsAt contents journal number is_busy knows_of left v h.lines × (told ≡ taken)) ⊎ ((lines : List Line) × ((n : ℕ) × Wrote contents journal number is_busy knows_of left v (count + 1) e h.lines lines taken told (take n (lines_text lines)))) → Stopped contents journal number is_busy knows_of left v text before told
+    by : (IsAt state number is_busy knows_of left v h.lines × (told ≡ taken)) ⊎ ((lines : List Line) × ((n : ℕ) × Wrote state number is_busy knows_of left v (count + 1) e h.lines lines taken told (take n (lines_text lines)))) → Stopped state number is_busy knows_of left v text before told
     by (inl (at, same)) =
-        let was = h.carried.at.fit.same_size in
-        let now = at.fit.same_size in
+        let was = h.carried.at.led.fit.same_size in
+        let now = at.led.fit.same_size in
         let few = h.carried.few in
-        stopped_here contents journal number is_busy knows_of left v count old text bl before told (record {
+        stopped_here state number is_busy knows_of left v count old text bl before told (record {
           events = h.events;
           lines = h.lines;
           carried = record {
@@ -158,22 +155,22 @@ stopped_in contents journal number is_busy knows_of left w v count old new e tex
       lines = h.lines ++ lines;
       count = count + 1;
       input = input_of new al;
-      carried = carried_more contents journal number is_busy knows_of left w v count old new text bl al h.events h.lines lines e h.cut cuts later grows wrote.advances h.carried;
+      carried = carried_more state number is_busy knows_of left w v count old new text bl al h.events h.lines lines e h.cut cuts later grows wrote.advances h.carried;
       many = length (lines_text h.lines) + n;
       written = written_front before taken told (lines_text h.lines) (lines_text lines) n h.written wrote.written ∙ ap (λ xs. after_told before (take (length (lines_text h.lines) + n) xs)) (sym (lines_text-append h.lines lines));
     }
 
-pub stopped_ends : {B C : Type 0} (contents : B → Contents) (journal : B → List JournalEntry) (number : C → ClientNo) (is_busy : C → Bool) (knows_of : C → Scene → Type 0) (left : C → ℕ) (w : World B C) (count : ℕ) (r : Reader) (text rest before taken : Option (List ℕ)) (fault : Type 0) (ending : Ending) → IsCause ending fault → Stopped contents journal number is_busy knows_of left w text before taken → EndsSo contents journal number is_busy knows_of left w count r text rest before taken ending
-stopped_ends contents journal number is_busy knows_of left w count r text rest before taken fault SinkFailed cause h = h
-stopped_ends contents journal number is_busy knows_of left w count r text rest before taken fault OutOfMemory cause h = h
-stopped_ends contents journal number is_busy knows_of left w count r text rest before taken fault Done (inl q) h = absurd (let z : Done ≡ SinkFailed = q.0 in cc)
-stopped_ends contents journal number is_busy knows_of left w count r text rest before taken fault Done (inr q) h = absurd (let z : Done ≡ OutOfMemory = q in cc)
-stopped_ends contents journal number is_busy knows_of left w count r text rest before taken fault Usage (inl q) h = absurd (let z : Usage ≡ SinkFailed = q.0 in cc)
-stopped_ends contents journal number is_busy knows_of left w count r text rest before taken fault Usage (inr q) h = absurd (let z : Usage ≡ OutOfMemory = q in cc)
-stopped_ends contents journal number is_busy knows_of left w count r text rest before taken fault Malformed (inl q) h = absurd (let z : Malformed ≡ SinkFailed = q.0 in cc)
-stopped_ends contents journal number is_busy knows_of left w count r text rest before taken fault Malformed (inr q) h = absurd (let z : Malformed ≡ OutOfMemory = q in cc)
-stopped_ends contents journal number is_busy knows_of left w count r text rest before taken fault SourceFailed (inl q) h = absurd (let z : SourceFailed ≡ SinkFailed = q.0 in cc)
-stopped_ends contents journal number is_busy knows_of left w count r text rest before taken fault SourceFailed (inr q) h = absurd (let z : SourceFailed ≡ OutOfMemory = q in cc)
+pub stopped_ends : {B C : Type 0} (state : B → BrickState) (number : C → ClientNo) (is_busy : C → Bool) (knows_of : C → Scene → Type 0) (left : C → ℕ) (w : World B C) (count : ℕ) (r : Reader) (text rest before taken : Option (List ℕ)) (fault : Type 0) (ending : Ending) → IsCause ending fault → Stopped state number is_busy knows_of left w text before taken → EndsSo state number is_busy knows_of left w count r text rest before taken ending
+stopped_ends state number is_busy knows_of left w count r text rest before taken fault SinkFailed cause h = h
+stopped_ends state number is_busy knows_of left w count r text rest before taken fault OutOfMemory cause h = h
+stopped_ends state number is_busy knows_of left w count r text rest before taken fault Done (inl q) h = absurd (let z : Done ≡ SinkFailed = q.0 in cc)
+stopped_ends state number is_busy knows_of left w count r text rest before taken fault Done (inr q) h = absurd (let z : Done ≡ OutOfMemory = q in cc)
+stopped_ends state number is_busy knows_of left w count r text rest before taken fault Usage (inl q) h = absurd (let z : Usage ≡ SinkFailed = q.0 in cc)
+stopped_ends state number is_busy knows_of left w count r text rest before taken fault Usage (inr q) h = absurd (let z : Usage ≡ OutOfMemory = q in cc)
+stopped_ends state number is_busy knows_of left w count r text rest before taken fault Malformed (inl q) h = absurd (let z : Malformed ≡ SinkFailed = q.0 in cc)
+stopped_ends state number is_busy knows_of left w count r text rest before taken fault Malformed (inr q) h = absurd (let z : Malformed ≡ OutOfMemory = q in cc)
+stopped_ends state number is_busy knows_of left w count r text rest before taken fault SourceFailed (inl q) h = absurd (let z : SourceFailed ≡ SinkFailed = q.0 in cc)
+stopped_ends state number is_busy knows_of left w count r text rest before taken fault SourceFailed (inr q) h = absurd (let z : SourceFailed ≡ OutOfMemory = q in cc)
 
 -- a fault of a part of a run is one of the run
 pub fault_since : (a b c : ℕ) → a ≤ b → HasFault b c → HasFault a c

@@ -1,46 +1,56 @@
 -- New bricks, one after the other.
-use Rattle.std.proofs.Common.{◌≡◌, ℕ, ◌+◌, ◌<◌, ◌≤◌, List, [], ◌∷◌, ◌++◌, length, suc, zero, refl, ap, ◌∙◌, sym, subst, arith}
-use Rattle.std.specs.Prelude.{Option, None, slice_index_or}
+use Rattle.std.proofs.Common.{◌≡◌, ℕ, ◌+◌, ◌≤◌, ◌<◌, List, [], ◌∷◌, ◌++◌, true, length, suc, zero, refl, ap, ◌∙◌, subst, arith}
+use Rattle.std.specs.Prelude.{slice_get}
 use Rattle.dht_types.specs.Gfid.{root}
-use Rattle.dht_xattr.specs.Plan.{planned}
-use Rattle.dht_xattr.specs.declared.range.Range.{Range}
-use Rattle.dht_brick.specs.Contents.{Contents, newborn}
-use Rattle.dht_brick.specs.declared.journal.JournalEntry.{JournalEntry}
-use Rattle.dht_world.specs.Bricks.{disk_of, journals_of, nothing, value_of, AreNewborn}
+use Rattle.dht_types.specs.Volume.{VolumeInfo, replay_names}
+use Rattle.dht_xattr.specs.Plan.{planned_value}
+use Rattle.dht_brick.specs.Bricks.{BrickState, IsNewborn}
+use Rattle.dht_world.specs.Bricks.{disk_of, journals_of, nothing, new_brick, AreNewborn, AreReady, ReadyAt}
 
--- a new brick that has the range at this place
-abbrev pub new_of : List (Option Range) → ℕ → Contents
-new_of ranges n = newborn (value_of (slice_index_or ranges n None))
+-- the brick of this number is new, has its planned range of the root, and fails only where it is armed
+pub record IsNew (v : VolumeInfo) (b : ℕ) (s : BrickState) : Type 0 where
+  pub newborn : IsNewborn b v (planned_value v.weights root b) s
+  pub faultless : s.is_faultless ≡ true
 
 -- the bricks, of which the first has number n, are new
-abbrev pub AreNew : {B : Type 0} → (B → Contents) → (B → List JournalEntry) → List (Option Range) → ℕ → List B → Type 0
-AreNew contents journal ranges n [] = Unit {0}
-AreNew contents journal ranges n (b ∷ bricks) = (contents b ≡ new_of ranges n) × (journal b ≡ []) × AreNew contents journal ranges (suc n) bricks
+abbrev pub AreNew : {B : Type 0} → (B → BrickState) → VolumeInfo → ℕ → List B → Type 0
+AreNew state v n [] = Unit {0}
+AreNew state v n (b ∷ bricks) = IsNew v n (state b) × AreNew state v (suc n) bricks
 
-pub one_new_more : {B : Type 0} (contents : B → Contents) (journal : B → List JournalEntry) (ranges : List (Option Range)) (n : ℕ) (bricks : List B) (b : B) (m : ℕ) → AreNew contents journal ranges n bricks → m ≡ n + length bricks → contents b ≡ new_of ranges m → journal b ≡ [] → AreNew contents journal ranges n (bricks ++ b ∷ [])
-one_new_more contents journal ranges n [] b m h k e f = (e ∙ ap (new_of ranges) (let z : m ≡ n = omega arith in z), f, tt)
-one_new_more contents journal ranges n (x ∷ xs) b m h k e f = (h.0, h.1, one_new_more contents journal ranges (suc n) xs b m h.2 (omega arith) e f)
+pub one_new_more : {B : Type 0} (state : B → BrickState) (v : VolumeInfo) (n m : ℕ) (bricks : List B) (b : B) → AreNew state v n bricks → m ≡ n + length bricks → IsNew v m (state b) → AreNew state v n (bricks ++ b ∷ [])
+one_new_more state v n m [] b h k new = (subst (λ (i : ℕ). IsNew v i (state b)) (omega arith) new, tt)
+one_new_more state v n m (x ∷ xs) b h k new = (h.0, one_new_more state v (suc n) m xs b h.1 (omega arith) new)
 
-new_at : {B : Type 0} (contents : B → Contents) (journal : B → List JournalEntry) (ranges : List (Option Range)) (n : ℕ) (bricks : List B) → AreNew contents journal ranges n bricks → (i : ℕ) → i < length bricks → (disk_of contents bricks).brick i ≡ new_of ranges (n + i)
-new_at contents journal ranges n [] h i lt = absurd (omega arith)
-new_at contents journal ranges n (x ∷ xs) h zero lt = h.0 ∙ ap (new_of ranges) (let z : n ≡ n + 0 = omega arith in z)
-new_at contents journal ranges n (x ∷ xs) h (suc i) lt = new_at contents journal ranges (suc n) xs h.2 i (omega arith) ∙ ap (new_of ranges) (let z : suc n + i ≡ n + suc i = omega arith in z)
+none_at : {B : Type 0} (state : B → BrickState) (bricks : List B) (i : ℕ) → length bricks ≤ i → (disk_of state bricks).brick i ≡ nothing
+none_at state [] i le = refl
+none_at state (x ∷ xs) zero le = absurd (omega arith)
+none_at state (x ∷ xs) (suc i) le = none_at state xs i (omega arith)
 
-none_at : {B : Type 0} (contents : B → Contents) (bricks : List B) (i : ℕ) → length bricks ≤ i → (disk_of contents bricks).brick i ≡ nothing
-none_at contents [] i le = refl
-none_at contents (x ∷ xs) zero le = absurd (omega arith)
-none_at contents (x ∷ xs) (suc i) le = none_at contents xs i (omega arith)
+new_contents : {B : Type 0} (state : B → BrickState) (v : VolumeInfo) (n : ℕ) (bricks : List B) → AreNew state v n bricks → (i : ℕ) → i < length bricks → (disk_of state bricks).brick i ≡ new_brick v.weights (n + i)
+new_contents state v n [] h i lt = absurd (omega arith)
+new_contents state v n (x ∷ xs) h zero lt = h.0.newborn.contents ∙ ap (new_brick v.weights) (let z : n ≡ n + 0 = omega arith in z)
+new_contents state v n (x ∷ xs) h (suc i) lt = new_contents state v (suc n) xs h.1 i (omega arith) ∙ ap (new_brick v.weights) (let z : suc n + i ≡ n + suc i = omega arith in z)
 
-nothing_served : {B : Type 0} (contents : B → Contents) (journal : B → List JournalEntry) (ranges : List (Option Range)) (n : ℕ) (bricks : List B) → AreNew contents journal ranges n bricks → (i : ℕ) → journals_of journal bricks i ≡ []
-nothing_served contents journal ranges n [] h i = refl
-nothing_served contents journal ranges n (x ∷ xs) h zero = h.1
-nothing_served contents journal ranges n (x ∷ xs) h (suc i) = nothing_served contents journal ranges (suc n) xs h.2 i
+nothing_served : {B : Type 0} (state : B → BrickState) (v : VolumeInfo) (n : ℕ) (bricks : List B) → AreNew state v n bricks → (i : ℕ) → journals_of state bricks i ≡ []
+nothing_served state v n [] h i = refl
+nothing_served state v n (x ∷ xs) h zero = h.0.newborn.journal
+nothing_served state v n (x ∷ xs) h (suc i) = nothing_served state v (suc n) xs h.1 i
 
-pub newborn_all : {B : Type 0} (contents : B → Contents) (journal : B → List JournalEntry) (ws : List ℕ) (ranges : List (Option Range)) (bricks : List B) → ranges ≡ planned ws root → AreNew contents journal ranges 0 bricks → AreNewborn ws (disk_of contents bricks) (journals_of journal bricks)
-newborn_all {B = B} contents journal ws ranges bricks e h =
-    let k = subst (λ (rs : List (Option Range)). AreNew contents journal rs 0 bricks) e h in
-    record {
-      contents = λ b l. new_at contents journal (planned ws root) 0 bricks k b l ∙ ap (new_of (planned ws root)) (let z : 0 + b ≡ b = omega arith in z);
-      elsewhere = none_at contents bricks;
-      journals = nothing_served contents journal (planned ws root) 0 bricks k;
-    }
+-- bricks that are all new
+pub newborn_all : {B : Type 0} (state : B → BrickState) (v : VolumeInfo) (bricks : List B) → AreNew state v 0 bricks → AreNewborn v.weights (disk_of state bricks) (journals_of state bricks)
+newborn_all state v bricks h = record {
+  contents = λ b l. new_contents state v 0 bricks h b l ∙ ap (new_brick v.weights) (let z : 0 + b ≡ b = omega arith in z);
+  elsewhere = none_at state bricks;
+  journals = nothing_served state v 0 bricks h;
+}
+
+ready_from : {B : Type 0} (state : B → BrickState) (v : VolumeInfo) (count n : ℕ) (bricks : List B) → v.names ≡ replay_names count → AreNew state v n bricks → (i : ℕ) → ReadyAt state count (slice_get bricks i)
+ready_from state v count n [] e h i = tt
+ready_from state v count n (x ∷ xs) e h zero =
+    let new = h.0.newborn in
+    record { up = new.up; unarmed = new.unarmed; faultless = h.0.faultless; names = ap (λ (w : VolumeInfo). w.names) new.volume ∙ e }
+ready_from state v count n (x ∷ xs) e h (suc i) = ready_from state v count (suc n) xs e h.1 i
+
+-- new bricks that know the names of a replay's bricks
+pub ready_all : {B : Type 0} (state : B → BrickState) (v : VolumeInfo) (bricks : List B) → v.names ≡ replay_names (length bricks) → AreNew state v 0 bricks → AreReady state bricks
+ready_all state v bricks e h = ready_from state v (length bricks) 0 bricks e h

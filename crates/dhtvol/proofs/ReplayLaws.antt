@@ -1,7 +1,6 @@
 -- One more event of a schedule, and the lines that it gave.
-use Rattle.std.proofs.Common.{◌≡◌, ◌≢◌, ◌+◌, ◌≤◌, ◌<◌, ◌*◌, ◌^◌, ℕ, List, [], ◌∷◌, ◌++◌, Bool, true, false, suc, refl, sym, ap, ◌∙◌, subst, inl, inr, ◌⊎◌, length, take, arith, append_assoc, length-append}
+use Rattle.std.proofs.Common.{◌≡◌, ◌+◌, ◌≤◌, ◌<◌, ℕ, List, [], ◌∷◌, ◌++◌, Bool, true, false, suc, refl, sym, ap, ◌∙◌, subst, inl, inr, length, arith, append_assoc, length-append}
 use Rattle.std.specs.Prelude.{Option, Some, None, IfSome, MatchBool, Contains}
-use Rattle.std.specs.Option.{option_map}
 use Rattle.std.specs.List.{flat_map}
 use Rattle.dht_types.specs.Cost.{cost}
 use Rattle.dht_types.specs.Story.{Story, Running, told_all, story_of, start}
@@ -10,24 +9,22 @@ use Rattle.dht_types.specs.declared.identifiers.ClientNo.{ClientNo}
 use Rattle.dht_types.specs.declared.events.Event.{Event}
 use Rattle.dht_types.specs.declared.events.Event.TheVariants.{Volume, Call, Step}
 use Rattle.dht_types.specs.declared.lines.Line.{Line}
-use Rattle.dht_brick.specs.Contents.{Contents}
-use Rattle.dht_brick.specs.declared.journal.JournalEntry.{JournalEntry}
-use Rattle.dht_section.specs.Scene.{Disk, Scene}
+use Rattle.dht_brick.specs.Bricks.{BrickState}
+use Rattle.dht_section.specs.Scene.{Scene}
 use Rattle.dht_sched.specs.Schedule.{schedule_text, IsScheduled, IsOneLine}
 use Rattle.dht_section.proofs.KeptLaws.{nat_cases, placed_of}
 use Rattle.dht_sched.specs.Transcript.{line_text, lines_text}
 use Rattle.dht_world.specs.Bricks.{disk_of, journals_of}
 use Rattle.dht_world.specs.Following.{ComesFrom, Block}
-use Rattle.dht_world.specs.World.{At, Works, CanHappen}
+use Rattle.dht_world.specs.World.{Works, CanHappen}
 use Rattle.dht_world.specs.Places.{IsAt, Advances}
 use Rattle.dht_world.specs.declared.world.World.{World}
-use Rattle.dhtvol.specs.Outside.{before_told, after_told}
+use Rattle.dhtvol.specs.Outside.{before_told}
 use Rattle.dhtvol.specs.Lines.{Reader, input_of}
 use Rattle.dhtvol.proofs.Told.{before_told-before_told}
 use Rattle.dhtvol.specs.NextEvent.{CutsEvent, HasNoEvent}
-use Rattle.dhtvol.specs.Replay.{schedule_of, IsSchedule, AreAfterFirst, IsAfterFirst, IsFirst, MayCome, IsMalformed, IsTranscript}
-use Rattle.dhtvol.specs.SoFar.{Carried, SoFar}
-use Rattle.dhtvol.specs.declared.lines.TheConstants.{INPUT_LIMIT}
+use Rattle.dhtvol.specs.Replay.{schedule_of, IsSchedule, AreAfterFirst, IsAfterFirst, MayCome, IsMalformed, IsTranscript}
+use Rattle.dhtvol.specs.SoFar.{Carried}
 
 -- one more event at the end
 pub schedule_more : (es : List Event) (e : Event) → schedule_of (es ++ e ∷ []) ≡ schedule_of es ++ (schedule_text e ++ 10 ∷ [])
@@ -115,22 +112,22 @@ misplaced events e input (Some more) one s not only eq = subst (λ (o : Option (
     may_scheduled (x ∷ xs) o h = h.0
 
 -- the transcript so far is one
-pub transcript_of : {B C : Type 0} (contents : B → Contents) (journal : B → List JournalEntry) (number : C → ClientNo) (is_busy : C → Bool) (knows_of : C → Scene → Type 0) (left : C → ℕ) → ((c : C) → is_busy c ≡ true → 0 < left c) → (w : World B C) (events : List Event) (lines : List Line) → IsAt contents journal number is_busy knows_of left w lines → ComesFrom start 1 events lines → IsTranscript events lines (disk_of contents w.bricks.items) (journals_of journal w.bricks.items)
-transcript_of contents journal number is_busy knows_of left goes_on w events lines at comes = record {
-  legal = at.legal;
+pub transcript_of : {B C : Type 0} (state : B → BrickState) (number : C → ClientNo) (is_busy : C → Bool) (knows_of : C → Scene → Type 0) (left : C → ℕ) → ((c : C) → is_busy c ≡ true → 0 < left c) → (w : World B C) (events : List Event) (lines : List Line) → IsAt state number is_busy knows_of left w lines → ComesFrom start 1 events lines → IsTranscript events lines (disk_of state w.bricks.items) (journals_of state w.bricks.items)
+transcript_of state number is_busy knows_of left goes_on w events lines at comes = record {
+  legal = at.led.legal;
   follows = comes;
-  logged = at.fit.logged;
-  stands = λ some. at.fit.kept.stands;
-  placed = λ e f h. placed_of (disk_of contents w.bricks.items) (story_of lines) e f at.fit.kept h;
-  in_time = at.in_time;
+  logged = at.led.fit.logged;
+  stands = λ some. at.led.fit.kept.stands;
+  placed = λ e f h. placed_of (disk_of state w.bricks.items) (story_of lines) e f at.led.fit.kept h;
+  in_time = at.led.in_time;
   answers = λ c r e. elim (nat_cases c 0) [
-    | inl q ↦ by (is_busy w.client) refl at.fit.own r (ap (story_of lines).running (sym q) ∙ e)
-    | inr ne ↦ absurd (let z : Some r ≡ None = sym e ∙ at.fit.alone c ne in cc)
+    | inl q ↦ by (is_busy w.client) refl at.led.fit.own r (ap (story_of lines).running (sym q) ∙ e)
+    | inr ne ↦ absurd (let z : Some r ≡ None = sym e ∙ at.led.fit.alone c ne in cc)
   ];
-  counted = at.fit.kept.counted;
+  counted = at.led.fit.kept.counted;
 }
   where
-    by : (b : Bool) → is_busy w.client ≡ b → MatchBool b (Works knows_of left (disk_of contents w.bricks.items) (story_of lines) w.client) ((story_of lines).running 0 ≡ None) → (r : Running) → (story_of lines).running 0 ≡ Some r → r.steps < cost (length (story_of lines).weights) r.call
+    by : (b : Bool) → is_busy w.client ≡ b → MatchBool b (Works knows_of left (disk_of state w.bricks.items) (story_of lines) w.client) ((story_of lines).running 0 ≡ None) → (r : Running) → (story_of lines).running 0 ≡ Some r → r.steps < cost (length (story_of lines).weights) r.call
     by true busy h r e =
         let z : Some h.mine ≡ Some r = sym h.runs ∙ e in
         let same : h.mine ≡ r = cc in
@@ -140,8 +137,8 @@ transcript_of contents journal number is_busy knows_of left goes_on w events lin
     by false idle h r e = absurd (let z : Some r ≡ None = sym e ∙ h in cc)
 
 -- one event more was carried out
-pub carried_more : {B C : Type 0} (contents : B → Contents) (journal : B → List JournalEntry) (number : C → ClientNo) (is_busy : C → Bool) (knows_of : C → Scene → Type 0) (left : C → ℕ) (w v : World B C) (count : ℕ) (old new : Reader) (text before after : Option (List ℕ)) (events : List Event) (lines block : List Line) (e : Event) → old.cut ≡ length (schedule_of events) → CutsEvent old new before after e → IsAfterFirst e → v.lines ≤ w.lines + 3 → Advances contents journal number is_busy knows_of left v (count + 1) e lines block → Carried contents journal number is_busy knows_of left w count text (input_of old before) events lines → Carried contents journal number is_busy knows_of left v (count + 1) text (input_of new after) (events ++ e ∷ []) (lines ++ block)
-carried_more contents journal number is_busy knows_of left w v count old new text before after events lines block e cut cuts later grows a h =
+pub carried_more : {B C : Type 0} (state : B → BrickState) (number : C → ClientNo) (is_busy : C → Bool) (knows_of : C → Scene → Type 0) (left : C → ℕ) (w v : World B C) (count : ℕ) (old new : Reader) (text before after : Option (List ℕ)) (events : List Event) (lines block : List Line) (e : Event) → old.cut ≡ length (schedule_of events) → CutsEvent old new before after e → IsAfterFirst e → v.lines ≤ w.lines + 3 → Advances state number is_busy knows_of left v (count + 1) e lines block → Carried state number is_busy knows_of left w count text (input_of old before) events lines → Carried state number is_busy knows_of left v (count + 1) text (input_of new after) (events ++ e ∷ []) (lines ++ block)
+carried_more state number is_busy knows_of left w v count old new text before after events lines block e cut cuts later grows a h =
     let n = h.counted in
     let some = h.some in
     let shorter = h.shorter in

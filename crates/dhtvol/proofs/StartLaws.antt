@@ -1,31 +1,24 @@
 -- How a run begins, and what it has done before the volume's line.
-use Rattle.std.proofs.Common.{◌≡◌, ◌≢◌, ◌+◌, ◌≤◌, ◌<◌, ◌*◌, ◌^◌, ◌-◌, ℕ, List, [], ◌∷◌, ◌++◌, Bool, true, false, suc, zero, refl, sym, ap, ◌∙◌, subst, inl, inr, ◌⊎◌, length, take, arith, append_assoc, append-nil, length-append}
-use Rattle.std.specs.Prelude.{Option, Some, None, IfSome, Ok, Err, Result, vec_len}
-use Rattle.std.proofs.lemmas.List.{take_all}
+use Rattle.std.proofs.Common.{◌≡◌, ◌+◌, ℕ, List, [], ◌∷◌, ◌++◌, Bool, refl, sym, ap, ◌∙◌, subst, inl, inr, length, take, arith, append-nil, length-append}
+use Rattle.std.specs.Prelude.{Option, Some, None, IfSome}
 use Rattle.dht_types.specs.declared.identifiers.ClientNo.{ClientNo}
-use Rattle.dht_types.specs.declared.events.Event.{Event}
-use Rattle.dht_types.specs.declared.lines.Line.{Line}
-use Rattle.dht_brick.specs.Contents.{Contents}
-use Rattle.dht_brick.specs.declared.journal.JournalEntry.{JournalEntry}
+use Rattle.dht_brick.specs.Bricks.{BrickState}
 use Rattle.dht_section.specs.Scene.{Scene}
-use Rattle.dht_sched.specs.Transcript.{lines_text, dump_lines_text, malformed_text}
-use Rattle.dht_world.specs.Bricks.{disk_of, journals_of}
-use Rattle.dht_world.specs.Places.{IsAt, Advances}
+use Rattle.dht_sched.specs.Transcript.{lines_text, malformed_text}
+use Rattle.dht_world.specs.Bricks.{disk_of, journals_of, AreReady}
+use Rattle.dht_world.specs.Places.{IsAt}
 use Rattle.dht_world.specs.declared.world.World.{World}
 use Rattle.dhtvol.specs.Lines.{Reader, input_of, HasNoNewline}
-use Rattle.dhtvol.specs.Outside.{before_told, after_told, IsAtEnd, HasFault}
-use Rattle.dhtvol.specs.Replay.{Replays, IsDone, StopsAtLine, StopsAtSource, IsCutShort, IsLast, EndsAs, IsMalformed, IsAfterFirst, dump_all}
-use Rattle.dhtvol.specs.SoFar.{Carried, SoFar, Reached, ReachedBad, Stopped, EndsSo, Wrote}
+use Rattle.dhtvol.specs.Outside.{before_told, after_told}
+use Rattle.dhtvol.specs.Replay.{Replays, StopsAtLine, StopsAtSource, IsCutShort, EndsAs, IsMalformed}
+use Rattle.dhtvol.specs.SoFar.{Carried, SoFar, Stopped}
 use Rattle.dhtvol.specs.declared.ending.Ending.{Ending}
 use Rattle.dhtvol.specs.declared.ending.Ending.TheVariants.{Done, Usage, Malformed, SourceFailed, SinkFailed, OutOfMemory}
-use Rattle.dhtvol.proofs.Told.{after_told-after_told}
 use Rattle.dht_types.specs.declared.events.Event.TheVariants.{Volume as VolumeEvent}
 use Rattle.dht_types.specs.declared.lines.Line.TheVariants.{Volume as VolumeLine}
-use Rattle.dht_types.specs.Story.{start, story_of}
 use Rattle.dht_sched.specs.Schedule.{schedule_text}
 use Rattle.dhtvol.specs.NextEvent.{CutsEvent}
-use Rattle.dhtvol.specs.Replay.{schedule_of, IsTranscript}
-use Rattle.dhtvol.specs.declared.lines.TheConstants.{INPUT_LIMIT}
+use Rattle.dhtvol.specs.Replay.{IsTranscript}
 
 told_nothing : (x : Option (List ℕ)) → before_told [] x ≡ x
 told_nothing None = refl
@@ -35,8 +28,8 @@ took_nothing : (x : Option (List ℕ)) → x ≡ after_told x []
 took_nothing None = refl
 took_nothing (Some xs) = ap Some (sym (append-nil xs))
 
-no_transcript : {B : Type 0} (contents : B → Contents) (journal : B → List JournalEntry) → IsTranscript [] [] (disk_of contents []) (journals_of journal [])
-no_transcript contents journal = record {
+no_transcript : {B : Type 0} (state : B → BrickState) → IsTranscript [] [] (disk_of state []) (journals_of state [])
+no_transcript state = record {
   legal = record { from = tt; whole = refl };
   follows = refl;
   logged = record { steps = λ b. refl; slots = λ b. refl };
@@ -48,80 +41,81 @@ no_transcript contents journal = record {
 }
 
 -- nothing of the text was carried out
-nothing_replayed : {B : Type 0} (contents : B → Contents) (journal : B → List JournalEntry) (bricks : List B) (text rest : Option (List ℕ)) → bricks ≡ [] → rest ≡ text → Replays (disk_of contents bricks) (journals_of journal bricks) text rest [] []
-nothing_replayed {B = B} contents journal bricks text rest none same = record {
+nothing_replayed : {B : Type 0} (state : B → BrickState) (bricks : List B) (text rest : Option (List ℕ)) → bricks ≡ [] → rest ≡ text → Replays state bricks text rest [] []
+nothing_replayed {B = B} state bricks text rest none same = record {
   schedule = tt;
   limit = omega arith;
-  transcript = subst (λ (bs : List B). IsTranscript [] [] (disk_of contents bs) (journals_of journal bs)) (sym none) (no_transcript contents journal);
+  transcript = subst (λ (bs : List B). IsTranscript [] [] (disk_of state bs) (journals_of state bs)) (sym none) (no_transcript state);
+  ready = subst (λ (bs : List B). AreReady state bs) (sym none) (λ b. tt);
   front = sym same ∙ sym (told_nothing rest);
 }
 
 -- memory ran out before the first line
-pub nothing_done : {B : Type 0} (contents : B → Contents) (journal : B → List JournalEntry) (bricks : List B) (text before : Option (List ℕ)) → bricks ≡ [] → IsCutShort contents journal bricks text before before
-nothing_done contents journal bricks text before none = record {
+pub nothing_done : {B : Type 0} (state : B → BrickState) (bricks : List B) (text before : Option (List ℕ)) → bricks ≡ [] → IsCutShort state bricks text before before
+nothing_done state bricks text before none = record {
   events = [];
   lines = [];
   rest = text;
   last = [];
-  replays = nothing_replayed contents journal bricks text text none refl;
+  replays = nothing_replayed state bricks text text none refl;
   is_last = inl refl;
   many = 0;
   written = took_nothing before;
 }
 
 -- the first line is none, or no volume's
-pub first_malformed : {B : Type 0} (contents : B → Contents) (journal : B → List JournalEntry) (bricks : List B) (old : Reader) (text before taken : Option (List ℕ)) → bricks ≡ [] → old.pending ≡ [] → IfSome (input_of old text) (IsMalformed []) → taken ≡ after_told before (malformed_text 1) → StopsAtLine contents journal bricks text before taken
+pub first_malformed : {B : Type 0} (state : B → BrickState) (bricks : List B) (old : Reader) (text before taken : Option (List ℕ)) → bricks ≡ [] → old.pending ≡ [] → IfSome (input_of old text) (IsMalformed []) → taken ≡ after_told before (malformed_text 1) → StopsAtLine state bricks text before taken
 unfolding lines_text
-first_malformed contents journal bricks old text before taken none held bad told = record {
+first_malformed state bricks old text before taken none held bad told = record {
   events = [];
   lines = [];
   rest = text;
-  replays = nothing_replayed contents journal bricks text text none refl;
+  replays = nothing_replayed state bricks text text none refl;
   malformed = subst (λ (o : Option (List ℕ)). IfSome o (IsMalformed [])) (ap (λ xs. before_told xs text) held ∙ told_nothing text) bad;
   written = told;
 }
 
 -- and its number was written in part
-pub first_short : {B : Type 0} (contents : B → Contents) (journal : B → List JournalEntry) (bricks : List B) (text before taken : Option (List ℕ)) (n : ℕ) → bricks ≡ [] → taken ≡ after_told before (take n (malformed_text 1)) → IsCutShort contents journal bricks text before taken
+pub first_short : {B : Type 0} (state : B → BrickState) (bricks : List B) (text before taken : Option (List ℕ)) (n : ℕ) → bricks ≡ [] → taken ≡ after_told before (take n (malformed_text 1)) → IsCutShort state bricks text before taken
 unfolding lines_text
-first_short contents journal bricks text before taken n none told = record {
+first_short state bricks text before taken n none told = record {
   events = [];
   lines = [];
   rest = text;
   last = malformed_text 1;
-  replays = nothing_replayed contents journal bricks text text none refl;
+  replays = nothing_replayed state bricks text text none refl;
   is_last = inr (inr refl);
   many = n;
   written = told;
 }
 
 -- the source failed before the first line
-first_failed : {B : Type 0} (contents : B → Contents) (journal : B → List JournalEntry) (bricks : List B) (old new : Reader) (text rest before : Option (List ℕ)) → bricks ≡ [] → old.pending ≡ [] → input_of new rest ≡ input_of old text → HasNoNewline new.pending → StopsAtSource contents journal bricks text rest before before
+first_failed : {B : Type 0} (state : B → BrickState) (bricks : List B) (old new : Reader) (text rest before : Option (List ℕ)) → bricks ≡ [] → old.pending ≡ [] → input_of new rest ≡ input_of old text → HasNoNewline new.pending → StopsAtSource state bricks text rest before before
 unfolding lines_text
-first_failed contents journal bricks old new text rest before none held same no_line = record {
+first_failed state bricks old new text rest before none held same no_line = record {
   events = [];
   lines = [];
   pending = new.pending;
-  replays = nothing_replayed contents journal bricks text (before_told new.pending rest) none (same ∙ (ap (λ xs. before_told xs text) held ∙ told_nothing text));
+  replays = nothing_replayed state bricks text (before_told new.pending rest) none (same ∙ (ap (λ xs. before_told xs text) held ∙ told_nothing text));
   no_line = no_line;
   written = took_nothing before;
 }
 
 -- why the volume's line did not come
-pub no_first : {B : Type 0} (contents : B → Contents) (journal : B → List JournalEntry) (bricks : List B) (old new : Reader) (text rest before : Option (List ℕ)) (ending : Ending) → bricks ≡ [] → old.pending ≡ []
+pub no_first : {B : Type 0} (state : B → BrickState) (bricks : List B) (old new : Reader) (text rest before : Option (List ℕ)) (ending : Ending) → bricks ≡ [] → old.pending ≡ []
     → (ending ≡ SourceFailed → (input_of new rest ≡ input_of old text) × HasNoNewline new.pending)
     → (ending ≡ Malformed → ⊥) → (ending ≡ Done → ⊥) → (ending ≡ Usage → ⊥) → (ending ≡ SinkFailed → ⊥)
-    → EndsAs contents journal bricks text rest before before ending
-no_first contents journal bricks old new text rest before Done none held failed nm nd nu nk = absurd (nd refl)
-no_first contents journal bricks old new text rest before Usage none held failed nm nd nu nk = absurd (nu refl)
-no_first contents journal bricks old new text rest before SinkFailed none held failed nm nd nu nk = absurd (nk refl)
-no_first contents journal bricks old new text rest before Malformed none held failed nm nd nu nk = absurd (nm refl)
-no_first contents journal bricks old new text rest before OutOfMemory none held failed nm nd nu nk = nothing_done contents journal bricks text before none
-no_first contents journal bricks old new text rest before SourceFailed none held failed nm nd nu nk = (let f = failed refl in first_failed contents journal bricks old new text rest before none held f.0 f.1)
+    → EndsAs state bricks text rest before before ending
+no_first state bricks old new text rest before Done none held failed nm nd nu nk = absurd (nd refl)
+no_first state bricks old new text rest before Usage none held failed nm nd nu nk = absurd (nu refl)
+no_first state bricks old new text rest before SinkFailed none held failed nm nd nu nk = absurd (nk refl)
+no_first state bricks old new text rest before Malformed none held failed nm nd nu nk = absurd (nm refl)
+no_first state bricks old new text rest before OutOfMemory none held failed nm nd nu nk = nothing_done state bricks text before none
+no_first state bricks old new text rest before SourceFailed none held failed nm nd nu nk = (let f = failed refl in first_failed state bricks old new text rest before none held f.0 f.1)
 
 -- the volume's line was carried out
-first_carried : {B C : Type 0} (contents : B → Contents) (journal : B → List JournalEntry) (number : C → ClientNo) (is_busy : C → Bool) (knows_of : C → Scene → Type 0) (left : C → ℕ) (w : World B C) (old new : Reader) (text rest : Option (List ℕ)) (weights : List ℕ) → old.cut ≡ 0 → old.pending ≡ [] → CutsEvent old new text rest (VolumeEvent weights) → w.lines ≡ 1 → IsAt contents journal number is_busy knows_of left w (VolumeLine weights ∷ []) → Carried contents journal number is_busy knows_of left w 1 text (input_of new rest) (VolumeEvent weights ∷ []) (VolumeLine weights ∷ [])
-first_carried contents journal number is_busy knows_of left w old new text rest weights cut held cuts one at =
+first_carried : {B C : Type 0} (state : B → BrickState) (number : C → ClientNo) (is_busy : C → Bool) (knows_of : C → Scene → Type 0) (left : C → ℕ) (w : World B C) (old new : Reader) (text rest : Option (List ℕ)) (weights : List ℕ) → old.cut ≡ 0 → old.pending ≡ [] → CutsEvent old new text rest (VolumeEvent weights) → w.lines ≡ 1 → IsAt state number is_busy knows_of left w (VolumeLine weights ∷ []) → Carried state number is_busy knows_of left w 1 text (input_of new rest) (VolumeEvent weights ∷ []) (VolumeLine weights ∷ [])
+first_carried state number is_busy knows_of left w old new text rest weights cut held cuts one at =
     let counted = cuts.counted in
     let within = cuts.within in
     let size : length (schedule_text (VolumeEvent weights) ++ 10 ∷ []) ≡ length (schedule_text (VolumeEvent weights)) + 1 = length-append (schedule_text (VolumeEvent weights)) (10 ∷ []) in
@@ -137,24 +131,24 @@ first_carried contents journal number is_busy knows_of left w old new text rest 
       front = sym (ap (λ xs. before_told xs text) held ∙ told_nothing text) ∙ cuts.front;
     }
 
-pub so_far_first : {B C : Type 0} (contents : B → Contents) (journal : B → List JournalEntry) (number : C → ClientNo) (is_busy : C → Bool) (knows_of : C → Scene → Type 0) (left : C → ℕ) (w : World B C) (old new : Reader) (text rest before taken : Option (List ℕ)) (weights : List ℕ) → old.cut ≡ 0 → old.pending ≡ [] → CutsEvent old new text rest (VolumeEvent weights) → w.lines ≡ 1 → IsAt contents journal number is_busy knows_of left w (VolumeLine weights ∷ []) → taken ≡ after_told before (lines_text (VolumeLine weights ∷ [])) → SoFar contents journal number is_busy knows_of left w 1 new text rest before taken
-so_far_first contents journal number is_busy knows_of left w old new text rest before taken weights cut held cuts one at told =
+pub so_far_first : {B C : Type 0} (state : B → BrickState) (number : C → ClientNo) (is_busy : C → Bool) (knows_of : C → Scene → Type 0) (left : C → ℕ) (w : World B C) (old new : Reader) (text rest before taken : Option (List ℕ)) (weights : List ℕ) → old.cut ≡ 0 → old.pending ≡ [] → CutsEvent old new text rest (VolumeEvent weights) → w.lines ≡ 1 → IsAt state number is_busy knows_of left w (VolumeLine weights ∷ []) → taken ≡ after_told before (lines_text (VolumeLine weights ∷ [])) → SoFar state number is_busy knows_of left w 1 new text rest before taken
+so_far_first state number is_busy knows_of left w old new text rest before taken weights cut held cuts one at told =
     let counted = cuts.counted in
     record {
       events = VolumeEvent weights ∷ [];
       lines = VolumeLine weights ∷ [];
-      carried = first_carried contents journal number is_busy knows_of left w old new text rest weights cut held cuts one at;
+      carried = first_carried state number is_busy knows_of left w old new text rest weights cut held cuts one at;
       cut = omega (arith, length-append (schedule_text (VolumeEvent weights)) (10 ∷ []));
       written = told;
     }
 
-pub first_stopped : {B C : Type 0} (contents : B → Contents) (journal : B → List JournalEntry) (number : C → ClientNo) (is_busy : C → Bool) (knows_of : C → Scene → Type 0) (left : C → ℕ) (w : World B C) (old new : Reader) (text rest before taken : Option (List ℕ)) (weights : List ℕ) (n : ℕ) → old.cut ≡ 0 → old.pending ≡ [] → CutsEvent old new text rest (VolumeEvent weights) → w.lines ≡ 1 → IsAt contents journal number is_busy knows_of left w (VolumeLine weights ∷ []) → taken ≡ after_told before (take n (lines_text (VolumeLine weights ∷ []))) → Stopped contents journal number is_busy knows_of left w text before taken
-first_stopped contents journal number is_busy knows_of left w old new text rest before taken weights n cut held cuts one at told = record {
+pub first_stopped : {B C : Type 0} (state : B → BrickState) (number : C → ClientNo) (is_busy : C → Bool) (knows_of : C → Scene → Type 0) (left : C → ℕ) (w : World B C) (old new : Reader) (text rest before taken : Option (List ℕ)) (weights : List ℕ) (n : ℕ) → old.cut ≡ 0 → old.pending ≡ [] → CutsEvent old new text rest (VolumeEvent weights) → w.lines ≡ 1 → IsAt state number is_busy knows_of left w (VolumeLine weights ∷ []) → taken ≡ after_told before (take n (lines_text (VolumeLine weights ∷ []))) → Stopped state number is_busy knows_of left w text before taken
+first_stopped state number is_busy knows_of left w old new text rest before taken weights n cut held cuts one at told = record {
   events = VolumeEvent weights ∷ [];
   lines = VolumeLine weights ∷ [];
   count = 1;
   input = input_of new rest;
-  carried = first_carried contents journal number is_busy knows_of left w old new text rest weights cut held cuts one at;
+  carried = first_carried state number is_busy knows_of left w old new text rest weights cut held cuts one at;
   many = n;
   written = told;
 }

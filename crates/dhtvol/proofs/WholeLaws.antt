@@ -1,9 +1,8 @@
 -- A text that is a schedule is carried out whole.
-use Rattle.std.proofs.Common.{◌≡◌, ◌≢◌, ◌+◌, ◌≤◌, ◌<◌, ℕ, List, [], ◌∷◌, ◌++◌, refl, sym, ap, ◌∙◌, subst, length, arith, append_assoc, length-append}
+use Rattle.std.proofs.Common.{◌≡◌, ◌≢◌, ◌+◌, ◌≤◌, ℕ, List, [], ◌∷◌, ◌++◌, refl, sym, ap, ◌∙◌, subst, length, arith, append_assoc, length-append}
 use Rattle.std.specs.Prelude.{Option, Some, None, IfSome}
 use Rattle.dht_types.specs.declared.events.Event.{Event}
-use Rattle.dht_brick.specs.Contents.{Contents}
-use Rattle.dht_brick.specs.declared.journal.JournalEntry.{JournalEntry}
+use Rattle.dht_brick.specs.Bricks.{BrickState}
 use Rattle.dht_sched.specs.Schedule.{schedule_text, IsScheduled, IsOneLine}
 use Rattle.dht_sched.specs.Spelling.{words_of}
 use Rattle.dht_sched.proofs.LineLemmas.{same_event, words_of_text}
@@ -60,8 +59,8 @@ not_malformed one done all rest d a some limit e bad = (let r = rest_of one done
         bad.no_line x (schedule_of more) (may_come done x more (subst IsSchedule f a)) g (omega arith)
 
 -- a whole schedule does not stop at a line
-pub not_at_line : {B : Type 0} (contents : B → Contents) (journal : B → List JournalEntry) (bricks : List B) (text before taken : Option (List ℕ)) (all : List Event) → ((o : Event) → IsScheduled o → IsOneLine (schedule_text o)) → all ≢ [] → IsSchedule all → length (schedule_of all) ≤ INPUT_LIMIT → text ≡ Some (schedule_of all) → StopsAtLine contents journal bricks text before taken → ⊥
-not_at_line contents journal bricks text before taken all one some a limit is h = by h.rest (sym is ∙ h.replays.front) h.malformed
+pub not_at_line : {B : Type 0} (state : B → BrickState) (bricks : List B) (text before taken : Option (List ℕ)) (all : List Event) → ((o : Event) → IsScheduled o → IsOneLine (schedule_text o)) → all ≢ [] → IsSchedule all → length (schedule_of all) ≤ INPUT_LIMIT → text ≡ Some (schedule_of all) → StopsAtLine state bricks text before taken → ⊥
+not_at_line state bricks text before taken all one some a limit is h = by h.rest (sym is ∙ h.replays.front) h.malformed
   where
     by : (rest : Option (List ℕ)) → Some (schedule_of all) ≡ before_told (schedule_of h.events) rest → IfSome rest (IsMalformed h.events) → ⊥
     by None e bad = absurd (let z : Some (schedule_of all) ≡ None = e in cc)

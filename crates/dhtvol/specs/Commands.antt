@@ -6,7 +6,7 @@ use Rattle.dht_hash.specs.DaviesMeyer.{dm}
 use Rattle.dht_xattr.specs.Plan.{planned}
 use Rattle.dht_xattr.specs.declared.range.Range.{Range}
 use Rattle.dht_sched.specs.Commands.{hash_line, range_line}
-use Rattle.dht_world.specs.Bricks.{value_of}
+use Rattle.dht_xattr.specs.Plan.{value_of}
 use Rattle.dhtvol.specs.Outside.{after_told}
 
 -- the hash of each name, a line each

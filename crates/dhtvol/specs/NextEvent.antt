@@ -1,5 +1,5 @@
 -- What comes next in the text of a schedule.
-use Rattle.std.specs.Prelude.{ℕ, ◌+◌, ◌≤◌, ◌≡◌, ◌≢◌, Option, IfSome, List, [], ◌∷◌, ◌++◌, length}
+use Rattle.std.specs.Prelude.{ℕ, ◌+◌, ◌≤◌, ◌≡◌, ◌≢◌, Option, List, [], ◌∷◌, ◌++◌, length}
 use Rattle.dht_types.specs.declared.events.Event.{Event}
 use Rattle.dht_sched.specs.Schedule.{schedule_text, IsScheduled}
 use Rattle.dhtvol.specs.Lines.{Reader, input_of}

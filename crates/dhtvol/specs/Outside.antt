@@ -1,15 +1,11 @@
 -- What the outside world gives and takes: the words of faults, sources and sinks.
-use Rattle.std.specs.Prelude.{◌≡◌, ℕ, ◌+◌, ◌-◌, ◌^◌, ◌<◌, ◌≤◌, ◌⊎◌, ⊤, Option, None, Some, List, [], ◌++◌, Contains, min}
+use Rattle.std.specs.Prelude.{◌≡◌, ℕ, ◌+◌, ◌-◌, ◌^◌, ⊤, Option, None, Some, List, [], ◌++◌, Contains, min}
 use Rattle.std.specs.Option.{option_map}
 use Rattle.dhtvol.specs.declared.faults.FaultPlan.{FaultPlan}
 use Rattle.dhtvol.specs.declared.source.Got.{Got}
 use Rattle.dhtvol.specs.declared.source.Got.TheVariants.{Bytes as GotBytes, Failed as GotFailed}
 use Rattle.dhtvol.specs.declared.sink.Took.{Took}
 use Rattle.dhtvol.specs.declared.sink.Took.TheVariants.{Bytes as TookBytes, Failed as TookFailed}
-
--- a count of faults rose, or stands at its end
-abbrev pub HasFault : ℕ → ℕ → Type 0
-HasFault old new = (old < new) ⊎ (2 ^ 64 - 1 ≤ new)
 
 -- one more than a count that stays at 2^64 - 1
 abbrev pub counted : ℕ → ℕ

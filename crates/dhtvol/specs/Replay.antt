@@ -1,23 +1,22 @@
 -- What a run over the bytes of a schedule does: which events it carries out, and what it writes.
-use Rattle.std.specs.Prelude.{ℕ, ◌+◌, ◌<◌, ◌≤◌, ◌≡◌, ◌≢◌, ◌⊎◌, Option, Some, None, IfSome, List, [], ◌∷◌, ◌++◌, length, take}
+use Rattle.std.specs.Prelude.{ℕ, ◌+◌, ◌<◌, ◌≤◌, ◌≡◌, ◌≢◌, ◌⊎◌, Option, Some, IfSome, List, [], ◌∷◌, ◌++◌, length, take}
 use Rattle.dht_types.specs.Cost.{cost}
 use Rattle.dht_types.specs.Gfid.{Entry}
 use Rattle.dht_types.specs.Tree.{IsFile}
 use Rattle.dht_types.specs.declared.identifiers.Gfid.{Gfid}
-use Rattle.dht_types.specs.Story.{Story, Running, Legal, story_of, start}
-use Rattle.dht_types.specs.declared.identifiers.BrickNo.{BrickNo}
+use Rattle.dht_types.specs.Story.{Running, Legal, story_of, start}
 use Rattle.dht_types.specs.declared.events.Event.{Event}
 use Rattle.dht_types.specs.declared.events.Event.TheVariants.{Volume, Call, Step}
 use Rattle.dht_types.specs.declared.lines.Line.{Line}
 use Rattle.dht_types.specs.declared.lines.DumpLine.{DumpLine}
 use Rattle.dht_types.specs.declared.lines.DumpLine.TheVariants.{End}
-use Rattle.dht_brick.specs.Contents.{Contents}
+use Rattle.dht_brick.specs.Bricks.{BrickState}
 use Rattle.dht_brick.specs.Dump.{dump_of}
 use Rattle.dht_brick.specs.declared.journal.JournalEntry.{JournalEntry}
 use Rattle.dht_section.specs.Scene.{Disk, Stands, Placed}
 use Rattle.dht_sched.specs.Schedule.{schedule_text, IsScheduled}
 use Rattle.dht_sched.specs.Transcript.{lines_text, dump_lines_text, malformed_text}
-use Rattle.dht_world.specs.Bricks.{disk_of, journals_of, Logged}
+use Rattle.dht_world.specs.Bricks.{disk_of, journals_of, Logged, AreReady}
 use Rattle.dht_world.specs.Following.{ComesFrom, InTimeFrom}
 use Rattle.dhtvol.specs.Lines.{HasNoNewline}
 use Rattle.dhtvol.specs.Outside.{before_told, after_told, IsAtEnd}
@@ -71,69 +70,74 @@ pub record IsTranscript (events : List Event) (lines : List Line) (d : Disk) (js
   pub answers : (c : ℕ) (r : Running) → (story_of lines).running c ≡ Some r → r.steps < cost (length (story_of lines).weights) r.call
   pub counted : d.count ≡ length (story_of lines).weights
 
+-- the dump of a brick of this number
+abbrev pub brick_dump : ℕ → BrickState → List DumpLine
+brick_dump n s = dump_of (record { 0 = n }) s.is_up s.contents.store
+
 -- the dump of bricks, numbered from here
-abbrev pub dump_from : {B : Type 0} → (B → Contents) → ℕ → List B → List DumpLine
-dump_from contents n [] = []
-dump_from contents n (b ∷ bricks) = dump_of (record { 0 = n }) (contents b) ++ dump_from contents (n + 1) bricks
+abbrev pub dump_from : {B : Type 0} → (B → BrickState) → ℕ → List B → List DumpLine
+dump_from state n [] = []
+dump_from state n (b ∷ bricks) = brick_dump n (state b) ++ dump_from state (n + 1) bricks
 
 -- the dump of all bricks, and its end
-abbrev pub dump_all : {B : Type 0} → (B → Contents) → List B → List DumpLine
-dump_all contents bricks = dump_from contents 0 bricks ++ End ∷ []
+abbrev pub dump_all : {B : Type 0} → (B → BrickState) → List B → List DumpLine
+dump_all state bricks = dump_from state 0 bricks ++ End ∷ []
 
--- what every run has done: a schedule's events were carried out, which are the front of the text; the lines are their transcript; what is left of the text is this
-pub record Replays (contents_of : Disk) (js : ℕ → List JournalEntry) (text rest : Option (List ℕ)) (events : List Event) (lines : List Line) : Type 0 where
+-- what every run has done: a schedule's events were carried out, which are the front of the text; the lines are their transcript, over these bricks; each brick is up; what is left of the text is this
+pub record Replays {B : Type 0} (state : B → BrickState) (bricks : List B) (text rest : Option (List ℕ)) (events : List Event) (lines : List Line) : Type 0 where
   pub schedule : IsSchedule events
   pub limit : length (schedule_of events) ≤ INPUT_LIMIT
-  pub transcript : IsTranscript events lines contents_of js
+  pub transcript : IsTranscript events lines (disk_of state bricks) (journals_of state bricks)
+  pub ready : AreReady state bricks
   pub front : text ≡ before_told (schedule_of events) rest
 
 -- the text was carried out whole, and the transcript and the dump were written
-pub record IsDone {B : Type 0} (contents : B → Contents) (journal : B → List JournalEntry) (bricks : List B) (text left before taken : Option (List ℕ)) : Type 0 where
+pub record IsDone {B : Type 0} (state : B → BrickState) (bricks : List B) (text left before taken : Option (List ℕ)) : Type 0 where
   pub events : List Event
   pub lines : List Line
-  pub replays : Replays (disk_of contents bricks) (journals_of journal bricks) text left events lines
+  pub replays : Replays state bricks text left events lines
   pub some : events ≢ []
   pub at_end : IsAtEnd left
-  pub written : taken ≡ after_told before (lines_text lines ++ dump_lines_text (dump_all contents bricks))
+  pub written : taken ≡ after_told before (lines_text lines ++ dump_lines_text (dump_all state bricks))
 
 -- the first line that is none was reached; all before it was carried out, and written with a last line that has its number
-pub record StopsAtLine {B : Type 0} (contents : B → Contents) (journal : B → List JournalEntry) (bricks : List B) (text before taken : Option (List ℕ)) : Type 0 where
+pub record StopsAtLine {B : Type 0} (state : B → BrickState) (bricks : List B) (text before taken : Option (List ℕ)) : Type 0 where
   pub events : List Event
   pub lines : List Line
   pub rest : Option (List ℕ)
-  pub replays : Replays (disk_of contents bricks) (journals_of journal bricks) text rest events lines
+  pub replays : Replays state bricks text rest events lines
   pub malformed : IfSome rest (IsMalformed events)
   pub written : taken ≡ after_told before (lines_text lines ++ malformed_text (length events + 1))
 
 -- the source failed; the events are all whole lines that it gave, and their whole transcript was written
-pub record StopsAtSource {B : Type 0} (contents : B → Contents) (journal : B → List JournalEntry) (bricks : List B) (text left before taken : Option (List ℕ)) : Type 0 where
+pub record StopsAtSource {B : Type 0} (state : B → BrickState) (bricks : List B) (text left before taken : Option (List ℕ)) : Type 0 where
   pub events : List Event
   pub lines : List Line
   pub pending : List ℕ
-  pub replays : Replays (disk_of contents bricks) (journals_of journal bricks) text (before_told pending left) events lines
+  pub replays : Replays state bricks text (before_told pending left) events lines
   pub no_line : HasNoNewline pending
   pub written : taken ≡ after_told before (lines_text lines)
 
 -- what may stand at the end of the lines: nothing yet, the dump, or the line of a malformed line
-abbrev pub IsLast : {B : Type 0} → (B → Contents) → List B → ℕ → List ℕ → Type 0
-IsLast contents bricks n last = (last ≡ []) ⊎ (last ≡ dump_lines_text (dump_all contents bricks)) ⊎ (last ≡ malformed_text n)
+abbrev pub IsLast : {B : Type 0} → (B → BrickState) → List B → ℕ → List ℕ → Type 0
+IsLast state bricks n last = (last ≡ []) ⊎ (last ≡ dump_lines_text (dump_all state bricks)) ⊎ (last ≡ malformed_text n)
 
 -- the run was cut short; what was written is a front of the lines' text, and of their last lines
-pub record IsCutShort {B : Type 0} (contents : B → Contents) (journal : B → List JournalEntry) (bricks : List B) (text before taken : Option (List ℕ)) : Type 0 where
+pub record IsCutShort {B : Type 0} (state : B → BrickState) (bricks : List B) (text before taken : Option (List ℕ)) : Type 0 where
   pub events : List Event
   pub lines : List Line
   pub rest : Option (List ℕ)
   pub last : List ℕ
-  pub replays : Replays (disk_of contents bricks) (journals_of journal bricks) text rest events lines
-  pub is_last : IsLast contents bricks (length events + 1) last
+  pub replays : Replays state bricks text rest events lines
+  pub is_last : IsLast state bricks (length events + 1) last
   pub many : ℕ
   pub written : taken ≡ after_told before (take many (lines_text lines ++ last))
 
 -- how a replay ends: by its ending, what was carried out and what was written
-abbrev pub EndsAs : {B : Type 0} → (B → Contents) → (B → List JournalEntry) → List B → (text left before taken : Option (List ℕ)) → Ending → Type 0
-EndsAs contents journal bricks text left before taken Done = IsDone contents journal bricks text left before taken
-EndsAs contents journal bricks text left before taken Malformed = StopsAtLine contents journal bricks text before taken
-EndsAs contents journal bricks text left before taken SourceFailed = StopsAtSource contents journal bricks text left before taken
-EndsAs contents journal bricks text left before taken SinkFailed = IsCutShort contents journal bricks text before taken
-EndsAs contents journal bricks text left before taken OutOfMemory = IsCutShort contents journal bricks text before taken
-EndsAs contents journal bricks text left before taken Usage = ⊥
+abbrev pub EndsAs : {B : Type 0} → (B → BrickState) → List B → (text left before taken : Option (List ℕ)) → Ending → Type 0
+EndsAs state bricks text left before taken Done = IsDone state bricks text left before taken
+EndsAs state bricks text left before taken Malformed = StopsAtLine state bricks text before taken
+EndsAs state bricks text left before taken SourceFailed = StopsAtSource state bricks text left before taken
+EndsAs state bricks text left before taken SinkFailed = IsCutShort state bricks text before taken
+EndsAs state bricks text left before taken OutOfMemory = IsCutShort state bricks text before taken
+EndsAs state bricks text left before taken Usage = ⊥

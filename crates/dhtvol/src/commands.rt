@@ -4,7 +4,7 @@ ghost use Rattle.std.specs.Prelude.{◌≡◌, All, IfOk, IfSome};
 ghost use Rattle.dht_sched.specs.Schedule.{IsScheduledVolume};
 ghost use Rattle.dht_xattr.specs.Plan.{IsPlanned};
 ghost use Rattle.dhtvol.specs.Commands.{hash_text, ranges_text, layout_text, IsPrinted};
-ghost use Rattle.dhtvol.specs.Outside.{HasFault};
+ghost use Rattle.dht_types.specs.Faults.{HasFault};
 ghost use Rattle.dhtvol.specs.Status.{status_of};
 
 use crate::ending::Ending;
@@ -60,7 +60,8 @@ fn ranges(alloc: Global, layout: &Layout) -> Result<Vec<u8>, AllocError>
 {
     let mut text = Vec::new(alloc);
     for (brick, range) in layout.as_slice().iter().enumerate() {
-        print_range(BrickNo(brick as u16), value_of(range), &mut text)?;
+        let value = value_of(alloc, range)?;
+        print_range(BrickNo(brick as u16), &value, &mut text)?;
     }
     Ok(text)
 }

@@ -1,7 +1,8 @@
 //! The events of a schedule, as a source gives them.
 
 ghost use Rattle.std.specs.Prelude.{◌≡◌, ◌≢◌, ℕ, ◌≤◌, [], None, IfOk, IfErr, IfSome, IsSomeAnd, is_some, MatchOption};
-ghost use Rattle.dhtvol.specs.Outside.{HasFault, IsAtEnd};
+ghost use Rattle.dht_types.specs.Faults.{HasFault};
+ghost use Rattle.dhtvol.specs.Outside.{IsAtEnd};
 ghost use Rattle.dhtvol.specs.Lines.{input_of, HasNoNewline};
 ghost use Rattle.dhtvol.specs.NextEvent.{CutsEvent, HasNoEvent};
 

@@ -1,7 +1,8 @@
 //! Faults that are counted, and those that a test plans.
 
 ghost use Rattle.std.specs.Prelude.{◌≡◌, ◌↔◌, ◌≤◌, IsTrue};
-ghost use Rattle.dhtvol.specs.Outside.{HasFault, counted, IsNextPlanned};
+ghost use Rattle.dht_types.specs.Faults.{HasFault};
+ghost use Rattle.dhtvol.specs.Outside.{counted, IsNextPlanned};
 
 /// Counts one more fault. The count stays at 2^64 - 1 once it is there.
 pub fn count_fault(faults: &mut u64)

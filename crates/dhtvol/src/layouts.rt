@@ -3,11 +3,10 @@
 ghost use Rattle.std.specs.Prelude.{◌≡◌, IfOk, IfSome, All};
 ghost use Rattle.dht_types.specs.Gfid.{root};
 ghost use Rattle.dht_sched.specs.Schedule.{IsScheduledVolume};
-ghost use Rattle.dht_xattr.specs.Plan.{IsPlanned, planned};
-ghost use Rattle.dht_world.specs.Bricks.{value_of};
+ghost use Rattle.dht_xattr.specs.Plan.{IsPlanned, planned, value_of};
 
+use dht_types::bytes::Bytes;
 use dht_types::identifiers::Gfid;
-use dht_types::lines::LayoutValue;
 use dht_types::volumes::{Volume, Weights};
 use dht_xattr::layout::Layout;
 use dht_xattr::plan::plan;
@@ -15,13 +14,13 @@ use dht_xattr::range::{Range, encode};
 use std::alloc::{AllocError, Global};
 
 /// The attribute that says a range, where there is one.
-pub fn value_of(range: &Option<Range>) -> Option<LayoutValue>
+pub fn value_of(alloc: Global, range: &Option<Range>) -> Result<Option<Bytes>, AllocError>
     requires { IfSome range.now IsPlanned }
-    ensures { result ≡ value_of range.now }
+    ensures { IfOk result (λ value. value ≡ value_of range.now) }
 {
     match range {
-        Some(range) => Some(LayoutValue(encode(*range))),
-        None => None,
+        Some(range) => Ok(Some(Bytes::new(encode(*range).to_vec(alloc)?))),
+        None => Ok(None),
     }
 }
 

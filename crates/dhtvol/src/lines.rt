@@ -1,7 +1,8 @@
 //! The lines of a source, cut off one after another.
 
 ghost use Rattle.std.specs.Prelude.{◌≡◌, ◌≢◌, ◌↔◌, ◌+◌, ◌-◌, ◌<◌, ◌≤◌, ℕ, List, [], ◌∷◌, ◌++◌, IfOk, IfSome, IfNone, IsTrue, All, Contains, length, take, drop, slice_index, vec_len, is_some};
-ghost use Rattle.dhtvol.specs.Outside.{HasFault, before_told, IsAtEnd, IfGot, OnGotFailed};
+ghost use Rattle.dht_types.specs.Faults.{HasFault};
+ghost use Rattle.dhtvol.specs.Outside.{before_told, IsAtEnd, IfGot, OnGotFailed};
 ghost use Rattle.dhtvol.specs.Lines.{HasNoNewline, IsFirstNewline, IsWithinLimits, input_of, HasNoLine, CutsLine, CutsNothing, IsFull, Adds};
 
 use crate::source::{Got, Source};

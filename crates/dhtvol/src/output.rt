@@ -1,7 +1,8 @@
 //! Writing a whole run of bytes to a sink.
 
 ghost use Rattle.std.specs.Prelude.{◌≡◌, ◌≤◌, ℕ, length, take, OnOk, OnErr, is_some};
-ghost use Rattle.dhtvol.specs.Outside.{HasFault, after_told};
+ghost use Rattle.dht_types.specs.Faults.{HasFault};
+ghost use Rattle.dhtvol.specs.Outside.{after_told};
 
 use crate::sink::{Sink, Took};
 use std::error::Error;

@@ -1,9 +1,8 @@
 //! The texts of lines, and of what bricks contain.
 
-ghost use Rattle.std.specs.Prelude.{◌≡◌, ◌++◌, ◌<◌, ◌≤◌, ◌^◌, ◌∷◌, [], ℕ, OnOk, OnErr, vec_len, length};
-ghost use Rattle.dht_types.specs.declared.lines.DumpLine.{DumpLine as ADumpLine};
+ghost use Rattle.std.specs.Prelude.{◌≡◌, ◌++◌, ◌<◌, ◌≤◌, OnOk, length};
 ghost use Rattle.dht_sched.specs.Transcript.{lines_text, dump_lines_text};
-ghost use Rattle.dhtvol.specs.Replay.{dump_from, dump_all};
+ghost use Rattle.dhtvol.specs.Replay.{dump_all};
 
 use dht_brick::brick::Brick;
 use dht_sched::{print_dump_line, print_line};
@@ -34,7 +33,7 @@ pub fn print_dump(lines: &[DumpLine], text: &mut Vec<u8>) -> Result<(), AllocErr
 /// Appends the lines of what all bricks contain, and the end of the dump.
 pub fn dump_bricks<B: Brick>(bricks: &[B], out: &mut Vec<DumpLine>) -> Result<(), AllocError>
     requires { length bricks.now ≤ 32 }
-    ensures { OnOk result (out.new.items ≡ out.old.items ++ dump_all B.contents bricks.now) }
+    ensures { OnOk result (out.new.items ≡ out.old.items ++ dump_all B.state bricks.now) }
 {
     let mut number = 0u16;
     for brick in bricks {

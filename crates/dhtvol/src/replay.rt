@@ -1,12 +1,13 @@
 //! The loop of a replay: one event after another, each one's lines written before the next is read.
 
-ghost use Rattle.std.specs.Prelude.{◌≡◌, ◌≢◌, ◌+◌, ◌<◌, ◌≤◌, ◌^◌, ◌⊎◌, ℕ, true, false, Option, List, [], ◌∷◌, ◌++◌, OnOk, OnErr, IfErr, length, take, vec_len};
+ghost use Rattle.std.specs.Prelude.{◌≡◌, ◌+◌, ◌<◌, ◌≤◌, ◌^◌, ◌⊎◌, ℕ, true, false, Option, List, [], ◌∷◌, OnOk, OnErr, IfErr, length, take, vec_len};
 ghost use Rattle.dht_types.specs.declared.events.Event.{Event as AnEvent};
 ghost use Rattle.dht_types.specs.declared.lines.Line.{Line as ALine};
 ghost use Rattle.dht_sched.specs.Transcript.{lines_text, dump_lines_text, malformed_text};
-ghost use Rattle.dht_world.specs.Places.{IsAt, Advances};
+ghost use Rattle.dht_world.specs.Places.{IsAt};
 ghost use Rattle.dht_world.specs.World.{CanHappen};
-ghost use Rattle.dhtvol.specs.Outside.{HasFault, after_told};
+ghost use Rattle.dht_types.specs.Faults.{HasFault};
+ghost use Rattle.dhtvol.specs.Outside.{after_told};
 ghost use Rattle.dhtvol.specs.Lines.{Reader};
 ghost use Rattle.dhtvol.specs.NextEvent.{CutsEvent};
 ghost use Rattle.dhtvol.specs.Replay.{IsAfterFirst, EndsAs, dump_all};
@@ -98,12 +99,12 @@ fn carry_out<B: Brick, C: Caller, K: Sink>(
 ) -> Result<(), Ending>
     requires can { CanHappen event.now }
     requires few { world.old.lines + 3 < 2 ^ 64 }
-    requires at { (past : List ALine) × IsAt B.contents B.journal C.number C.is_busy C.knows C.left world.old past }
-    ensures ok { OnOk result ((past : List ALine) → IsAt B.contents B.journal C.number C.is_busy C.knows C.left world.old past
-        → (lines : List ALine) × Wrote B.contents B.journal C.number C.is_busy C.knows C.left world.new line event.now past lines (K.taken sink.old) (K.taken sink.new) (lines_text lines)) }
-    ensures err { OnErr result ((past : List ALine) → IsAt B.contents B.journal C.number C.is_busy C.knows C.left world.old past
-        → (IsAt B.contents B.journal C.number C.is_busy C.knows C.left world.new past × (K.taken sink.new ≡ K.taken sink.old))
-        ⊎ ((lines : List ALine) × ((n : ℕ) × Wrote B.contents B.journal C.number C.is_busy C.knows C.left world.new line event.now past lines (K.taken sink.old) (K.taken sink.new) (take n (lines_text lines))))) }
+    requires at { (past : List ALine) × IsAt B.state C.number C.is_busy C.knows C.left world.old past }
+    ensures ok { OnOk result ((past : List ALine) → IsAt B.state C.number C.is_busy C.knows C.left world.old past
+        → (lines : List ALine) × Wrote B.state C.number C.is_busy C.knows C.left world.new line event.now past lines (K.taken sink.old) (K.taken sink.new) (lines_text lines)) }
+    ensures err { OnErr result ((past : List ALine) → IsAt B.state C.number C.is_busy C.knows C.left world.old past
+        → (IsAt B.state C.number C.is_busy C.knows C.left world.new past × (K.taken sink.new ≡ K.taken sink.old))
+        ⊎ ((lines : List ALine) × ((n : ℕ) × Wrote B.state C.number C.is_busy C.knows C.left world.new line event.now past lines (K.taken sink.old) (K.taken sink.new) (take n (lines_text lines))))) }
     ensures cause { IfErr result (λ e. ((e ≡ Ending.SinkFailed) × HasFault (K.faults sink.old) (K.faults sink.new)) ⊎ (e ≡ Ending.OutOfMemory)) }
     ensures faults { K.faults sink.old ≤ K.faults sink.new }
     ensures grows { world.new.lines ≤ world.old.lines + 3 }
@@ -137,9 +138,9 @@ pub fn go_on<B: Brick, C: Caller, S: Source, K: Sink>(
     sink: &mut K,
     page: &mut Page,
 ) -> Ending
-    requires so_far { (text before : Option (List ℕ)) × SoFar B.contents B.journal C.number C.is_busy C.knows C.left world.old count.old reader.old text (S.left source.old) before (K.taken sink.old) }
-    ensures ends { (text before : Option (List ℕ)) → SoFar B.contents B.journal C.number C.is_busy C.knows C.left world.old count.old reader.old text (S.left source.old) before (K.taken sink.old)
-        → EndsSo B.contents B.journal C.number C.is_busy C.knows C.left world.new count.new reader.new text (S.left source.new) before (K.taken sink.new) result }
+    requires so_far { (text before : Option (List ℕ)) × SoFar B.state C.number C.is_busy C.knows C.left world.old count.old reader.old text (S.left source.old) before (K.taken sink.old) }
+    ensures ends { (text before : Option (List ℕ)) → SoFar B.state C.number C.is_busy C.knows C.left world.old count.old reader.old text (S.left source.old) before (K.taken sink.old)
+        → EndsSo B.state C.number C.is_busy C.knows C.left world.new count.new reader.new text (S.left source.new) before (K.taken sink.new) result }
     ensures source { result ≡ Ending.SourceFailed → HasFault (S.faults source.old) (S.faults source.new) }
     ensures sink { result ≡ Ending.SinkFailed → HasFault (K.faults sink.old) (K.faults sink.new) }
     ensures faults { K.faults sink.old ≤ K.faults sink.new }
@@ -167,8 +168,8 @@ pub fn go_on<B: Brick, C: Caller, S: Source, K: Sink>(
 /// Writes what all bricks contain.
 fn write_dump<B: Brick, K: Sink>(alloc: Global, bricks: &[B], sink: &mut K) -> Result<(), Ending>
     requires { length bricks.now ≤ 32 }
-    ensures ok { OnOk result (K.taken sink.new ≡ after_told (K.taken sink.old) (dump_lines_text (dump_all B.contents bricks.now))) }
-    ensures front { OnErr result ((n : ℕ) × (K.taken sink.new ≡ after_told (K.taken sink.old) (take n (dump_lines_text (dump_all B.contents bricks.now))))) }
+    ensures ok { OnOk result (K.taken sink.new ≡ after_told (K.taken sink.old) (dump_lines_text (dump_all B.state bricks.now))) }
+    ensures front { OnErr result ((n : ℕ) × (K.taken sink.new ≡ after_told (K.taken sink.old) (take n (dump_lines_text (dump_all B.state bricks.now))))) }
     ensures cause { IfErr result (λ e. ((e ≡ Ending.SinkFailed) × HasFault (K.faults sink.old) (K.faults sink.new)) ⊎ (e ≡ Ending.OutOfMemory)) }
     ensures faults { K.faults sink.old ≤ K.faults sink.new }
 {
@@ -209,8 +210,8 @@ pub fn finish<B: Brick, C: Caller, K: Sink>(
     requires few { count ≤ INPUT_LIMIT }
     requires bricks { vec_len world.now.bricks ≤ 32 }
     ensures ends { (text rest before : Option (List ℕ)) (r : Reader)
-        → EndsSo B.contents B.journal C.number C.is_busy C.knows C.left world.now count r text rest before (K.taken sink.old) ending
-        → EndsAs B.contents B.journal world.now.bricks.items text rest before (K.taken sink.new) result }
+        → EndsSo B.state C.number C.is_busy C.knows C.left world.now count r text rest before (K.taken sink.old) ending
+        → EndsAs B.state world.now.bricks.items text rest before (K.taken sink.new) result }
     ensures source { result ≡ Ending.SourceFailed → ending ≡ Ending.SourceFailed }
     ensures sink { result ≡ Ending.SinkFailed → (ending ≡ Ending.SinkFailed) ⊎ HasFault (K.faults sink.old) (K.faults sink.new) }
     ensures faults { K.faults sink.old ≤ K.faults sink.new }
@@ -238,10 +239,10 @@ pub fn play<B: Brick, C: Caller, S: Source, K: Sink>(
     sink: &mut K,
 ) -> Ending
     requires first { (text : Option (List ℕ)) × ((old : Reader) × ((old.cut ≡ 0) × (old.pending ≡ []) × CutsEvent old reader.old text (S.left source.old) (AnEvent.Volume weights))) }
-    requires at { IsAt B.contents B.journal C.number C.is_busy C.knows C.left world.old (ALine.Volume weights ∷ []) }
+    requires at { IsAt B.state C.number C.is_busy C.knows C.left world.old (ALine.Volume weights ∷ []) }
     requires lines { world.old.lines ≡ 1 }
     ensures ends { (text : Option (List ℕ)) (old : Reader) → old.cut ≡ 0 → old.pending ≡ [] → CutsEvent old reader.old text (S.left source.old) (AnEvent.Volume weights)
-        → EndsAs B.contents B.journal world.new.bricks.items text (S.left source.new) (K.taken sink.old) (K.taken sink.new) result }
+        → EndsAs B.state world.new.bricks.items text (S.left source.new) (K.taken sink.old) (K.taken sink.new) result }
     ensures source { result ≡ Ending.SourceFailed → HasFault (S.faults source.old) (S.faults source.new) }
     ensures sink { result ≡ Ending.SinkFailed → HasFault (K.faults sink.old) (K.faults sink.new) }
 {

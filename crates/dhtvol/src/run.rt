@@ -1,77 +1,72 @@
 //! The one call that the program makes.
 
-ghost use Rattle.std.specs.Prelude.{◌≡◌, ◌≢◌, ◌⊎◌, ◌+◌, ◌<◌, ◌≤◌, ℕ, Option, Some, List, [], ◌∷◌, IfOk, IfErr, OnOk, OnErr, IfSome, All, length, take, vec_len};
+ghost use Rattle.std.specs.Prelude.{◌≡◌, ◌≢◌, ◌⊎◌, ◌<◌, ◌≤◌, ℕ, Option, Some, List, [], IfOk, OnErr, IfSome, length, take, vec_len};
 ghost use Rattle.dht_types.specs.declared.events.Event.{Event as AnEvent};
-ghost use Rattle.dht_types.specs.declared.lines.Line.{Line as ALine};
-ghost use Rattle.dht_brick.specs.Plain.{plain_contents, plain_journal};
-ghost use Rattle.dht_client.specs.Client.{client_number, client_is_busy, client_left, ClientKnows};
+ghost use Rattle.dht_membrick.specs.State.{mem_state};
 ghost use Rattle.dht_sched.specs.Schedule.{IsScheduledVolume};
 ghost use Rattle.dht_sched.specs.Transcript.{usage_text};
-ghost use Rattle.dht_types.specs.Gfid.{root};
-ghost use Rattle.dht_xattr.specs.Plan.{IsPlanned, planned};
-ghost use Rattle.dht_world.specs.Bricks.{disk_of, journals_of, AreNewborn};
-ghost use Rattle.dht_world.specs.Places.{IsAt};
+ghost use Rattle.dht_types.specs.Volume.{replay_names};
+ghost use Rattle.dht_world.specs.Bricks.{disk_of, journals_of, AreNewborn, AreReady};
 ghost use Rattle.dhtvol.specs.declared.lines.TheConstants.{INPUT_LIMIT};
 ghost use Rattle.dhtvol.specs.Lines.{Reader, input_of, HasNoNewline};
 ghost use Rattle.dhtvol.specs.NextEvent.{CutsEvent};
-ghost use Rattle.dhtvol.specs.Outside.{HasFault, after_told, IsAtEnd};
+ghost use Rattle.dht_types.specs.Faults.{HasFault};
+ghost use Rattle.dhtvol.specs.Outside.{after_told};
 ghost use Rattle.dhtvol.specs.Commands.{hash_text, layout_text, IsPrinted};
 ghost use Rattle.dhtvol.specs.Program.{IsReplay, IsHash, IsLayout, IsCommand, IsStatus};
 ghost use Rattle.dhtvol.specs.Replay.{EndsAs, IsMalformed, IsDone, StopsAtLine, StopsAtSource, IsCutShort, IsSchedule, schedule_of};
-ghost use Rattle.dhtvol.specs.SoFar.{SoFar, EndsSo};
 ghost use Rattle.dhtvol.specs.Status.{status_of};
 
 use crate::commands::{print_hashes, print_layout};
 use crate::ending::Ending;
 use crate::events::next_event;
-use crate::layouts::{root_layout, value_of};
 use crate::lines::LineReader;
 use crate::output::write_all;
 use crate::replay::{play, write_malformed};
 use crate::sink::Sink;
 use crate::source::Source;
 use crate::words::{Command, Word};
-use dht_brick::plain::PlainBrick;
 use dht_client::client::Client;
+use dht_membrick::MemBrick;
 use dht_sched::{one_line, print_usage};
 use dht_types::events::Event;
-use dht_types::identifiers::ClientNo;
-use dht_types::volumes::Weights;
+use dht_types::identifiers::{BrickNo, ClientNo};
+use dht_types::volumes::{Volume, Weights};
 use dht_world::world::World;
-use dht_xattr::layout::Layout;
 use std::alloc::{AllocError, Global};
 
 /// Where the bricks of a replay stand afterwards.
 #[derive(Drop)]
 pub struct Shelf {
     /// Bricks in memory.
-    pub mem: Vec<PlainBrick>,
+    pub mem: Vec<MemBrick>,
 }
 
-/// New bricks, one for each range of this layout: each has the root with its range.
-fn new_bricks(alloc: Global, layout: &Layout) -> Result<Vec<PlainBrick>, AllocError>
-    requires valid { All (λ range. IfSome range IsPlanned) layout.now }
-    ensures count { IfOk result (λ v. vec_len v ≡ length layout.now) }
-    ensures newborn { (ws : List ℕ) → layout.now ≡ planned ws root → IfOk result (λ v. AreNewborn ws (disk_of plain_contents v.items) (journals_of plain_journal v.items)) }
+/// The bricks of this volume, all new: each has the root with its planned range, and does not fail.
+fn new_bricks(alloc: Global, volume: &Volume) -> Result<Vec<MemBrick>, AllocError>
+    ensures count { IfOk result (λ v. vec_len v ≡ length volume.now.names) }
+    ensures newborn { IfOk result (λ v. AreNewborn volume.now.weights (disk_of mem_state v.items) (journals_of mem_state v.items)) }
+    ensures ready { volume.now.names ≡ replay_names (length volume.now.names) → IfOk result (λ v. AreReady mem_state v.items) }
 {
     let mut bricks = Vec::new(alloc);
-    for range in layout.as_slice() {
-        bricks.push(PlainBrick::new(alloc, value_of(range))?)?;
+    for number in 0..volume.bricks() {
+        bricks.push(MemBrick::new(alloc, volume, BrickNo(number), true)?)?;
     }
     Ok(bricks)
 }
 
 /// The bricks of a new volume of these weights. The root has its planned range on each.
-fn bricks_of(alloc: Global, weights: &Weights) -> Result<Vec<PlainBrick>, Ending>
+fn bricks_of(alloc: Global, weights: &Weights) -> Result<Vec<MemBrick>, Ending>
     requires volume { IsScheduledVolume weights.now }
     ensures count { IfOk result (λ v. vec_len v ≡ length weights.now) }
-    ensures newborn { IfOk result (λ v. AreNewborn weights.now (disk_of plain_contents v.items) (journals_of plain_journal v.items)) }
+    ensures newborn { IfOk result (λ v. AreNewborn weights.now (disk_of mem_state v.items) (journals_of mem_state v.items)) }
+    ensures ready { IfOk result (λ v. AreReady mem_state v.items) }
     ensures memory { OnErr result (result ≡ Err Ending.OutOfMemory) }
 {
-    let Ok(layout) = root_layout(alloc, weights) else {
+    let Ok(volume) = Volume::replay(alloc, weights, 1) else {
         return Err(Ending::OutOfMemory);
     };
-    match new_bricks(alloc, &layout) {
+    match new_bricks(alloc, &volume) {
         Ok(bricks) => Ok(bricks),
         Err(_) => Err(Ending::OutOfMemory),
     }
@@ -111,7 +106,7 @@ fn replay_volume<S: Source, K: Sink>(
     requires first { (text : Option (List ℕ)) × ((old : Reader) × ((old.cut ≡ 0) × (old.pending ≡ []) × CutsEvent old reader.old text (S.left source.old) (AnEvent.Volume weights))) }
     requires empty { shelf.old.mem.items ≡ [] }
     ensures ends { (text : Option (List ℕ)) (old : Reader) → old.cut ≡ 0 → old.pending ≡ [] → CutsEvent old reader.old text (S.left source.old) (AnEvent.Volume weights)
-        → EndsAs plain_contents plain_journal shelf.new.mem.items text (S.left source.new) (K.taken sink.old) (K.taken sink.new) result }
+        → EndsAs mem_state shelf.new.mem.items text (S.left source.new) (K.taken sink.old) (K.taken sink.new) result }
     ensures source { result ≡ Ending.SourceFailed → HasFault (S.faults source.old) (S.faults source.new) }
     ensures sink { result ≡ Ending.SinkFailed → HasFault (K.faults sink.old) (K.faults sink.new) }
 {
@@ -135,7 +130,7 @@ fn replay<S: Source, K: Sink>(
     shelf: &mut Shelf,
 ) -> Ending
     requires empty { shelf.old.mem.items ≡ [] }
-    ensures ends { EndsAs plain_contents plain_journal shelf.new.mem.items (S.left source.old) (S.left source.new) (K.taken sink.old) (K.taken sink.new) result }
+    ensures ends { EndsAs mem_state shelf.new.mem.items (S.left source.old) (S.left source.new) (K.taken sink.old) (K.taken sink.new) result }
     ensures source { result ≡ Ending.SourceFailed → HasFault (S.faults source.old) (S.faults source.new) }
     ensures sink { result ≡ Ending.SinkFailed → HasFault (K.faults sink.old) (K.faults sink.new) }
 {
@@ -180,7 +175,7 @@ fn obey<S: Source, K: Sink>(
     shelf: &mut Shelf,
 ) -> Ending
     requires empty { shelf.old.mem.items ≡ [] }
-    ensures replay { IsReplay words.now → EndsAs plain_contents plain_journal shelf.new.mem.items (S.left source.old) (S.left source.new) (K.taken sink.old) (K.taken sink.new) result }
+    ensures replay { IsReplay words.now → EndsAs mem_state shelf.new.mem.items (S.left source.old) (S.left source.new) (K.taken sink.old) (K.taken sink.new) result }
     ensures hash { (names : List (List ℕ)) → IsHash words.now names → IsPrinted (hash_text names) (K.taken sink.old) (K.taken sink.new) (status_of result) }
     ensures layout { (weights : List ℕ) → IsLayout words.now weights → IsPrinted (layout_text weights) (K.taken sink.old) (K.taken sink.new) (status_of result) }
     ensures unread { ¬ IsReplay words.now → source.new ≡ source.old }
@@ -218,10 +213,10 @@ pub fn run<S: Source, K: Sink>(
     requires empty { shelf.old.mem.items ≡ [] }
 
     // The headline, by the status of a replay.
-    ensures whole { IsReplay words.now → result ≡ 0 → IsDone plain_contents plain_journal shelf.new.mem.items (S.left source.old) (S.left source.new) (K.taken sink.old) (K.taken sink.new) }
-    ensures malformed { IsReplay words.now → result ≡ 3 → StopsAtLine plain_contents plain_journal shelf.new.mem.items (S.left source.old) (K.taken sink.old) (K.taken sink.new) }
-    ensures source_failed { IsReplay words.now → result ≡ 4 → StopsAtSource plain_contents plain_journal shelf.new.mem.items (S.left source.old) (S.left source.new) (K.taken sink.old) (K.taken sink.new) }
-    ensures cut_short { IsReplay words.now → (result ≡ 5) ⊎ (result ≡ 6) → IsCutShort plain_contents plain_journal shelf.new.mem.items (S.left source.old) (K.taken sink.old) (K.taken sink.new) }
+    ensures whole { IsReplay words.now → result ≡ 0 → IsDone mem_state shelf.new.mem.items (S.left source.old) (S.left source.new) (K.taken sink.old) (K.taken sink.new) }
+    ensures malformed { IsReplay words.now → result ≡ 3 → StopsAtLine mem_state shelf.new.mem.items (S.left source.old) (K.taken sink.old) (K.taken sink.new) }
+    ensures source_failed { IsReplay words.now → result ≡ 4 → StopsAtSource mem_state shelf.new.mem.items (S.left source.old) (S.left source.new) (K.taken sink.old) (K.taken sink.new) }
+    ensures cut_short { IsReplay words.now → (result ≡ 5) ⊎ (result ≡ 6) → IsCutShort mem_state shelf.new.mem.items (S.left source.old) (K.taken sink.old) (K.taken sink.new) }
 
     // A text that is a schedule's whole is not refused.
     ensures complete { IsReplay words.now → (events : List AnEvent) → events ≢ [] → IsSchedule events → length (schedule_of events) ≤ INPUT_LIMIT → S.left source.old ≡ Some (schedule_of events) → result ≢ 3 }

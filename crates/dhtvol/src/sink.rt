@@ -1,7 +1,8 @@
 //! Where bytes go: a sink in memory, and one over a writer of std.
 
 ghost use Rattle.std.specs.Prelude.{◌≡◌, ◌↔◌, ◌⊎◌, ℕ, ◌+◌, ◌-◌, ◌<◌, ◌≤◌, List, [], ◌++◌, Option, None, Some, IfOk, IfSome, length, take, min, vec_len, vec_capacity, is_some};
-ghost use Rattle.dhtvol.specs.Outside.{HasFault, IsNextPlanned, CountsCall, after_told, IfTook, OnTookFailed};
+ghost use Rattle.dht_types.specs.Faults.{HasFault};
+ghost use Rattle.dhtvol.specs.Outside.{IsNextPlanned, CountsCall, after_told, IfTook, OnTookFailed};
 
 use crate::faults::{FaultPlan, count_fault};
 use std::alloc::{AllocError, Global};

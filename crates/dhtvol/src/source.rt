@@ -1,7 +1,8 @@
 //! Where bytes come from: a source in memory, and one over a reader of std.
 
 ghost use Rattle.std.specs.Prelude.{◌≡◌, ◌↔◌, ℕ, ◌+◌, ◌<◌, ◌≤◌, List, [], Option, None, Some, length, take, drop, min, vec_len, is_some};
-ghost use Rattle.dhtvol.specs.Outside.{HasFault, IsNextPlanned, CountsCall, before_told, IsAtEnd, IfGot, OnGotFailed};
+ghost use Rattle.dht_types.specs.Faults.{HasFault};
+ghost use Rattle.dhtvol.specs.Outside.{IsNextPlanned, CountsCall, before_told, IsAtEnd, IfGot, OnGotFailed};
 
 use crate::faults::{FaultPlan, count_fault};
 use std::io::Read;

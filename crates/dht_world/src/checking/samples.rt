@@ -164,6 +164,8 @@ fn journal_of(alloc: Global, lines: &[Told], brick: u16) -> Result<Vec<JournalEn
                         request,
                         gfid,
                         name,
+                        offset: 0,
+                        length: 0,
                         reply,
                     })?;
                 }

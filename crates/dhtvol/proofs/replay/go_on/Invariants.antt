@@ -1,4 +1,4 @@
-use Rattle.std.proofs.Common.{◌≡◌, ◌≤◌, ◌+◌, ◌-◌, ℕ, List}
+use Rattle.std.proofs.Common.{◌≤◌, ◌+◌, ◌-◌, ℕ, List}
 use Rattle.std.specs.Prelude.{Option}
 use Rattle.dhtvol.specs.SoFar.{SoFar}
 use Rattle.dhtvol.specs.declared.lines.TheConstants.{INPUT_LIMIT}
@@ -6,8 +6,8 @@ use Rattle.dhtvol.proofs.replay.go_on.Given as goal
 
 abbrev pub invariant-events : goal.invariant-events
 invariant-events g l = record {
-  some : (text before : Option (List ℕ)) × SoFar g.B.Brick.contents g.B.Brick.journal g.C.Caller.number g.C.Caller.is_busy g.C.Caller.knows g.C.Caller.left l.world l.count l.reader text (g.S.Source.left l.source) before (g.K.Sink.taken l.sink);
-  each : (text before : Option (List ℕ)) → SoFar g.B.Brick.contents g.B.Brick.journal g.C.Caller.number g.C.Caller.is_busy g.C.Caller.knows g.C.Caller.left l.fn.world l.fn.count l.fn.reader text (g.S.Source.left l.fn.source) before (g.K.Sink.taken l.fn.sink) → SoFar g.B.Brick.contents g.B.Brick.journal g.C.Caller.number g.C.Caller.is_busy g.C.Caller.knows g.C.Caller.left l.world l.count l.reader text (g.S.Source.left l.source) before (g.K.Sink.taken l.sink);
+  some : (text before : Option (List ℕ)) × SoFar g.B.Brick.state g.C.Caller.number g.C.Caller.is_busy g.C.Caller.knows g.C.Caller.left l.world l.count l.reader text (g.S.Source.left l.source) before (g.K.Sink.taken l.sink);
+  each : (text before : Option (List ℕ)) → SoFar g.B.Brick.state g.C.Caller.number g.C.Caller.is_busy g.C.Caller.knows g.C.Caller.left l.fn.world l.fn.count l.fn.reader text (g.S.Source.left l.fn.source) before (g.K.Sink.taken l.fn.sink) → SoFar g.B.Brick.state g.C.Caller.number g.C.Caller.is_busy g.C.Caller.knows g.C.Caller.left l.world l.count l.reader text (g.S.Source.left l.source) before (g.K.Sink.taken l.sink);
   source : g.S.Source.faults l.fn.source ≤ g.S.Source.faults l.source;
   sink : g.K.Sink.faults l.fn.sink ≤ g.K.Sink.faults l.sink;
 }

@@ -1,19 +1,20 @@
-use Rattle.std.proofs.Common.{rules, ◌≡◌, ◌∙◌, ap, subst, sym, arith}
-use Rattle.std.specs.Prelude.{None, slice_index_or}
-use Rattle.dht_brick.specs.Contents.{newborn}
-use Rattle.dht_brick.specs.Plain.{plain_contents, plain_journal}
-use Rattle.dht_world.specs.Bricks.{value_of}
-use Rattle.dhtvol.proofs.NewbornLaws.{AreNew, one_new_more, newborn_all}
+use Rattle.std.proofs.Common.{rules, ◌≡◌, ◌∙◌, ap, subst, sym, arith, length}
+use Rattle.dht_types.specs.Volume.{replay_names}
+use Rattle.dht_membrick.specs.State.{mem_state}
+use Rattle.dhtvol.proofs.NewbornLaws.{AreNew, one_new_more, newborn_all, ready_all}
 use Rattle.dhtvol.proofs.run.new_bricks.Goals as goal
 
-pub loop-range-preserved : goal.loop-range-preserved
-loop-range-preserved c =
-    let value : c.value_of.result ≡ value_of (slice_index_or c.args.layout.now c.loop-range.range-index None) = search rules in
-    record {
-      count = search rules;
-      new = subst (AreNew plain_contents plain_journal c.args.layout.now 0) (sym c.in_ok-push.ensures.items)
-          (one_new_more plain_contents plain_journal c.args.layout.now 0 c.loop-range.bricks.items c.in_ok-new.field-0 c.loop-range.range-index c.loop-range.invariant.new (omega (arith, c.loop-range.invariant.count, c.loop-range.bricks.ok.0)) (c.in_ok-new.ensures.contents ∙ ap newborn value) c.in_ok-new.ensures.journal);
-    }
+pub loop-number-preserved : goal.loop-number-preserved
+loop-number-preserved c = record {
+  count = search rules;
+  new = subst (AreNew mem_state c.args.volume.now 0) (sym c.in_ok-push.ensures.items)
+      (one_new_more mem_state c.args.volume.now 0 c.loop-number.number c.loop-number.bricks.items c.in_ok-new.field-0 c.loop-number.invariant.new (omega (arith, c.loop-number.invariant.count, c.loop-number.bricks.ok.0)) (record { newborn = c.in_ok-new.ensures.newborn; faultless = c.in_ok-new.ensures.faultless }));
+}
 
 pub returns-clause-newborn : goal.returns-clause-newborn
-returns-clause-newborn c = λ ws e. newborn_all plain_contents plain_journal ws c.args.layout.now _ e c.loop-range.invariant.new
+returns-clause-newborn c = newborn_all mem_state c.args.volume.now _ c.loop-number.invariant.new
+
+pub returns-clause-ready : goal.returns-clause-ready
+returns-clause-ready c = λ known.
+    let count : length c.args.volume.now.names ≡ length c.loop-number.bricks.items = omega (arith, c.bricks-number-end.ensures.count, c.loop-number.invariant.count, c.loop-number.bricks.ok.0) in
+    ready_all mem_state c.args.volume.now _ (known ∙ ap replay_names count) c.loop-number.invariant.new

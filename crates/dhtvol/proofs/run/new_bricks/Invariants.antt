@@ -1,11 +1,11 @@
 use Rattle.std.proofs.Common.{◌≡◌}
 use Rattle.std.specs.Prelude.{vec_len}
-use Rattle.dht_brick.specs.Plain.{plain_contents, plain_journal}
+use Rattle.dht_membrick.specs.State.{mem_state}
 use Rattle.dhtvol.proofs.NewbornLaws.{AreNew}
 use Rattle.dhtvol.proofs.run.new_bricks.Given as goal
 
-abbrev pub invariant-loop-range : goal.invariant-loop-range
-invariant-loop-range l = record {
-  count : vec_len l.bricks ≡ l.range-index;
-  new : AreNew plain_contents plain_journal l.layout 0 l.bricks.items;
+abbrev pub invariant-loop-number : goal.invariant-loop-number
+invariant-loop-number l = record {
+  count : vec_len l.bricks ≡ l.number;
+  new : AreNew mem_state l.volume 0 l.bricks.items;
 }

@@ -1,29 +1,29 @@
 use Rattle.std.proofs.Common.{ap, ◌∙◌, Err}
-use Rattle.dht_brick.specs.Plain.{plain_contents, plain_journal}
-use Rattle.dhtvol.specs.Outside.{HasFault}
+use Rattle.dht_membrick.specs.State.{mem_state}
+use Rattle.dht_types.specs.Faults.{HasFault}
 use Rattle.dhtvol.proofs.FinishLaws.{ends_short}
 use Rattle.dhtvol.proofs.StartLaws.{nothing_done, first_malformed, first_short, no_first}
 use Rattle.dhtvol.proofs.run.replay.Goals as goal
 
 pub returns-in_default-clause-ends : goal.returns-in_default-clause-ends
-returns-in_default-clause-ends g c = nothing_done plain_contents plain_journal c.args.shelf.now.mem.items _ _ c.requires.empty
+returns-in_default-clause-ends g c = nothing_done mem_state c.args.shelf.now.mem.items _ _ c.requires.empty
 
 pub returns-in-Ok-write_malformed-clause-ends : goal.returns-in-Ok-write_malformed-clause-ends
 returns-in-Ok-write_malformed-clause-ends g c =
-    first_malformed plain_contents plain_journal c.args.shelf.now.mem.items c.in-Ok.reader _ _ _ c.requires.empty c.in-Ok.ensures.pending
+    first_malformed mem_state c.args.shelf.now.mem.items c.in-Ok.reader _ _ _ c.requires.empty c.in-Ok.ensures.pending
     (c.first_line.ensures.malformed (c.in-Err.is ∙ ap Err c.in-Malformed.is)) c.in-Ok-write_malformed.ensures.ok
 
 pub returns-in-Malformed-clause-ends : goal.returns-in-Malformed-clause-ends
 returns-in-Malformed-clause-ends g c =
     let front = c.in-Err-write_malformed.ensures.front in
-    ends_short plain_contents plain_journal c.args.shelf.now.mem.items _ _ _ _ (HasFault (g.K.Sink.faults c.args.sink.now) (g.K.Sink.faults c.write_malformed.new.sink)) c.in-Err-write_malformed.fault c.in-Err-write_malformed.ensures.cause
-    (first_short plain_contents plain_journal c.args.shelf.now.mem.items _ _ _ front.0 c.requires.empty front.1)
+    ends_short mem_state c.args.shelf.now.mem.items _ _ _ _ (HasFault (g.K.Sink.faults c.args.sink.now) (g.K.Sink.faults c.write_malformed.new.sink)) c.in-Err-write_malformed.fault c.in-Err-write_malformed.ensures.cause
+    (first_short mem_state c.args.shelf.now.mem.items _ _ _ front.0 c.requires.empty front.1)
 
 pub returns : goal.returns
 returns g c =
     let other = c.first_line.ensures.no_other in
     record {
-      ends = no_first plain_contents plain_journal c.args.shelf.now.mem.items c.in-Ok.reader c.first_line.new.reader _ _ _ c.in-Err.ending c.requires.empty c.in-Ok.ensures.pending
+      ends = no_first mem_state c.args.shelf.now.mem.items c.in-Ok.reader c.first_line.new.reader _ _ _ c.in-Err.ending c.requires.empty c.in-Ok.ensures.pending
           (λ q. (let f = c.first_line.ensures.failed (c.in-Err.is ∙ ap Err q) in (f.1, f.2))) c.in_default-ending.not-Malformed
           (λ q. other.0 (c.in-Err.is ∙ ap Err q)) (λ q. other.1 (c.in-Err.is ∙ ap Err q)) (λ q. other.2 (c.in-Err.is ∙ ap Err q));
       source = λ q. (let f = c.first_line.ensures.failed (c.in-Err.is ∙ ap Err q) in f.0);

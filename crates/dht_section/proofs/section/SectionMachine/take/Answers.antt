@@ -22,6 +22,6 @@ pub returns-then-next-location-clause-moves : goal.returns-then-next-location-cl
 returns-then-next-location-clause-moves c = λ s t sound after knows moved at.
     take_look c.args.self c.in-Looking.location c.in-Looking.brick c.in-Looking.seen c.with-seen.result c.saturating_add-next.result c.args.reply s t c.in-Looking.is (sym c.if-is_no_memory.ensures) c.with-seen.ensures (omega arith) c.if-next-location.true sound knows moved
 
-pub returns-else-next-location-clause-moves : goal.returns-else-next-location-clause-moves
-returns-else-next-location-clause-moves c = λ s t sound after knows moved at.
+pub returns-clause-moves : goal.returns-clause-moves
+returns-clause-moves c = λ s t sound after knows moved at.
     take_last c.args.self c.in-Looking.location c.in-Looking.brick c.in-Looking.seen c.with-seen.result c.args.at c.args.reply s t c.in-Looking.is (sym c.if-is_no_memory.ensures) c.with-seen.ensures (omega arith) at sound after knows moved

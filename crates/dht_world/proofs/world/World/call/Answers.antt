@@ -12,24 +12,24 @@ use Rattle.dht_world.proofs.world.World.call.Goals as goal
 pub returns-then-not-is_idle-clause-advances : goal.returns-then-not-is_idle-clause-advances
 returns-then-not-is_idle-clause-advances g c = λ past at.
     let w = c.args.self.now in
-    let d = disk_of g.B.Brick.contents w.bricks.items in
-    let js = journals_of g.B.Brick.journal w.bricks.items in
+    let d = disk_of g.B.Brick.state w.bricks.items in
+    let js = journals_of g.B.Brick.state w.bricks.items in
     let busy = busy_of (g.C.Caller.is_busy w.client) (sym c.is_idle.ensures ∙ c.if-not-is_idle.true) in
-    let works = busy_call g.C.Caller.number g.C.Caller.is_busy g.C.Caller.knows g.C.Caller.left g.met.C.Caller.stable d js w.client w.weights w.run w.calls w.lines past busy at in
+    let works = busy_call g.C.Caller.number g.C.Caller.is_busy g.C.Caller.knows g.C.Caller.left g.met.C.Caller.stable d js w.client w.weights w.run w.calls w.lines past busy at.led in
     (Refused c.args.line Busy ∷ [], c.refuse.ensures.lines, record { at = c.refuse.ensures.at past at; block = block_busy (story_of past) c.args.line c.args.what.now works.mine works.runs })
 
 pub returns-clause-advances : goal.returns-clause-advances
 returns-clause-advances g c = λ past at.
     let w = c.args.self.now in
-    let d = disk_of g.B.Brick.contents w.bricks.items in
-    let js = journals_of g.B.Brick.journal w.bricks.items in
+    let d = disk_of g.B.Brick.state w.bricks.items in
+    let js = journals_of g.B.Brick.state w.bricks.items in
     let idle = idle_of (g.C.Caller.is_busy w.client) (sym c.is_idle.ensures ∙ c.if-not-is_idle.false) in
     let k : CallNo = record { 0 = w.calls + 1 } in
-    let n = at.fit.same_calls in (
+    let n = at.led.fit.same_calls in (
       Called k client c.args.what.now ∷ [],
       c.note.ensures.items,
       record {
-        at = at_called g.C.Caller.number g.C.Caller.is_busy g.C.Caller.knows g.C.Caller.left g.met.C.Caller.stable d js w.client c.start.new.self w.weights w.run w.calls w.lines past k c.args.what.now idle c.start.ensures.busy c.start.ensures.number refl c.start.ensures.knows c.start.ensures.left at;
-        block = block_called (story_of past) c.args.line k c.args.what.now (idle_call g.C.Caller.number g.C.Caller.is_busy g.C.Caller.knows g.C.Caller.left g.met.C.Caller.stable d js w.client w.weights w.run w.calls w.lines past idle at) (omega arith);
+        at = record { led = at_called g.C.Caller.number g.C.Caller.is_busy g.C.Caller.knows g.C.Caller.left g.met.C.Caller.stable d js w.client c.start.new.self w.weights w.run w.calls w.lines past k c.args.what.now idle c.start.ensures.busy c.start.ensures.number refl c.start.ensures.knows c.start.ensures.left at.led; ready = at.ready };
+        block = block_called (story_of past) c.args.line k c.args.what.now (idle_call g.C.Caller.number g.C.Caller.is_busy g.C.Caller.knows g.C.Caller.left g.met.C.Caller.stable d js w.client w.weights w.run w.calls w.lines past idle at.led) (omega arith);
       },
     )

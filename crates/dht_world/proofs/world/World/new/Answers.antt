@@ -7,4 +7,4 @@ pub returns-clause-at : goal.returns-clause-at
 returns-clause-at g c =
     let bricks = c.args.bricks.items in
     let count : length bricks ≡ length c.args.weights = omega (arith, c.requires.counted, c.args.bricks.ok.0) in
-    at_start g.C.Caller.number g.C.Caller.is_busy g.C.Caller.knows g.C.Caller.left (disk_of g.B.Brick.contents bricks) (journals_of g.B.Brick.journal bricks) c.args.client c.args.weights c.requires.newborn c.requires.heavy count (omega (arith, c.requires.some, count)) (omega (arith, c.requires.few, count)) c.requires.who c.requires.idle
+    record { led = at_start g.C.Caller.number g.C.Caller.is_busy g.C.Caller.knows g.C.Caller.left (disk_of g.B.Brick.state bricks) (journals_of g.B.Brick.state bricks) c.args.client c.args.weights c.requires.newborn c.requires.heavy count (omega (arith, c.requires.some, count)) (omega (arith, c.requires.few, count)) c.requires.who c.requires.idle; ready = c.requires.ready }

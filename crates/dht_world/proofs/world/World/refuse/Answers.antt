@@ -5,4 +5,4 @@ use Rattle.dht_world.proofs.world.World.refuse.Goals as goal
 pub returns-clause-at : goal.returns-clause-at
 returns-clause-at g c = λ past at.
     let w = c.args.self.now in
-    at_refused g.C.Caller.number g.C.Caller.is_busy g.C.Caller.knows g.C.Caller.left g.met.C.Caller.stable (disk_of g.B.Brick.contents w.bricks.items) (journals_of g.B.Brick.journal w.bricks.items) w.client w.weights w.run w.calls w.lines past c.args.line c.args.cause at
+    record { led = at_refused g.C.Caller.number g.C.Caller.is_busy g.C.Caller.knows g.C.Caller.left g.met.C.Caller.stable (disk_of g.B.Brick.state w.bricks.items) (journals_of g.B.Brick.state w.bricks.items) w.client w.weights w.run w.calls w.lines past c.args.line c.args.cause at.led; ready = at.ready }

@@ -13,10 +13,10 @@ use Rattle.dht_world.proofs.world.World.step.Goals as goal
 pub returns-in-Some-clause-ok : goal.returns-in-Some-clause-ok
 returns-in-Some-clause-ok g c = λ past at.
     let w = c.args.self.now in
-    let d = disk_of g.B.Brick.contents w.bricks.items in
-    let e = disk_of g.B.Brick.contents c.serve_at.new.bricks.items in
-    let js = journals_of g.B.Brick.journal w.bricks.items in
-    let ks = journals_of g.B.Brick.journal c.serve_at.new.bricks.items in
+    let d = disk_of g.B.Brick.state w.bricks.items in
+    let e = disk_of g.B.Brick.state c.serve_at.new.bricks.items in
+    let js = journals_of g.B.Brick.state w.bricks.items in
+    let ks = journals_of g.B.Brick.state c.serve_at.new.bricks.items in
     let busy = busy_of (g.C.Caller.is_busy w.client) (sym c.is_idle.ensures ∙ c.if-is_idle.false) in
     let k : CallNo = record { 0 = w.calls } in
     let a = c.next-ask.result in
@@ -24,9 +24,9 @@ returns-in-Some-clause-ok g c = λ past at.
     let v = c.in_ok-reply.ensures.ok in
     let few = c.requires.few in
     let small : w.lines < 2 ^ 64 = omega arith in
-    let adv = advance g.C.Caller.number g.C.Caller.is_busy g.C.Caller.knows g.C.Caller.left g.met.C.Caller.stable g.C.Caller.asks g.met.C.Caller.permitted d e js ks w.client w.weights w.run w.calls w.lines past k a r v.after busy (g.met.C.Caller.goes_on w.client busy) c.next-ask.ensures refl small v.served v.changes v.noted at in
+    let adv = advance g.C.Caller.number g.C.Caller.is_busy g.C.Caller.knows g.C.Caller.left g.met.C.Caller.stable g.C.Caller.asks g.met.C.Caller.permitted d e js ks w.client w.weights w.run w.calls w.lines past k a r v.after busy (g.met.C.Caller.goes_on w.client busy) c.next-ask.ensures refl small v.served v.changes v.noted at.led in
     let size = adv.went.size in
-    let was = at.fit.same_size in
+    let was = at.led.fit.same_size in
     let xs = request_lines k client a r in
     let count : c.note_request.result ≡ length xs = c.note_request.ensures.count in
     let moves = c.in-Some.ensures.moves _ _ adv.before adv.after adv.works.knows adv.moved (omega arith) in
@@ -35,8 +35,11 @@ returns-in-Some-clause-ok g c = λ past at.
       lines,
       c.note.ensures.items ∙ (ap (λ zs. zs ++ Answered k client y.at y.answer ∷ []) c.note_request.ensures.items ∙ append_assoc c.args.out.now.items xs (Answered k client y.at y.answer ∷ [])),
       record {
-        at = subst (λ (n : ℕ). At g.C.Caller.number g.C.Caller.is_busy g.C.Caller.knows g.C.Caller.left e ks c.take.new.self w.weights w.run w.calls (w.lines + n + 1) (past ++ lines)) (sym count)
-            (at_answered g.C.Caller.number g.C.Caller.is_busy g.C.Caller.knows g.C.Caller.left g.met.C.Caller.stable g.C.Caller.asks d e js ks w.client c.take.new.self w.weights w.run w.calls w.lines past k a r y adv c.in-Some.ensures.number moves.0 moves.1 at);
+        at = record {
+          led = subst (λ (n : ℕ). At g.C.Caller.number g.C.Caller.is_busy g.C.Caller.knows g.C.Caller.left e ks c.take.new.self w.weights w.run w.calls (w.lines + n + 1) (past ++ lines)) (sym count)
+              (at_answered g.C.Caller.number g.C.Caller.is_busy g.C.Caller.knows g.C.Caller.left g.met.C.Caller.stable g.C.Caller.asks d e js ks w.client c.take.new.self w.weights w.run w.calls w.lines past k a r y adv c.in-Some.ensures.number moves.0 moves.1 at.led);
+          ready = c.in_ok-reply.ensures.ready;
+        };
         block = block_answered (story_of past) c.args.line adv.works.mine k a r y adv.works.runs adv.call_is;
       },
     )
@@ -44,10 +47,10 @@ returns-in-Some-clause-ok g c = λ past at.
 pub returns-in_default-clause-ok : goal.returns-in_default-clause-ok
 returns-in_default-clause-ok g c = λ past at.
     let w = c.args.self.now in
-    let d = disk_of g.B.Brick.contents w.bricks.items in
-    let e = disk_of g.B.Brick.contents c.serve_at.new.bricks.items in
-    let js = journals_of g.B.Brick.journal w.bricks.items in
-    let ks = journals_of g.B.Brick.journal c.serve_at.new.bricks.items in
+    let d = disk_of g.B.Brick.state w.bricks.items in
+    let e = disk_of g.B.Brick.state c.serve_at.new.bricks.items in
+    let js = journals_of g.B.Brick.state w.bricks.items in
+    let ks = journals_of g.B.Brick.state c.serve_at.new.bricks.items in
     let busy = busy_of (g.C.Caller.is_busy w.client) (sym c.is_idle.ensures ∙ c.if-is_idle.false) in
     let k : CallNo = record { 0 = w.calls } in
     let a = c.next-ask.result in
@@ -55,17 +58,20 @@ returns-in_default-clause-ok g c = λ past at.
     let v = c.in_ok-reply.ensures.ok in
     let few = c.requires.few in
     let small : w.lines < 2 ^ 64 = omega arith in
-    let adv = advance g.C.Caller.number g.C.Caller.is_busy g.C.Caller.knows g.C.Caller.left g.met.C.Caller.stable g.C.Caller.asks g.met.C.Caller.permitted d e js ks w.client w.weights w.run w.calls w.lines past k a r v.after busy (g.met.C.Caller.goes_on w.client busy) c.next-ask.ensures refl small v.served v.changes v.noted at in
+    let adv = advance g.C.Caller.number g.C.Caller.is_busy g.C.Caller.knows g.C.Caller.left g.met.C.Caller.stable g.C.Caller.asks g.met.C.Caller.permitted d e js ks w.client w.weights w.run w.calls w.lines past k a r v.after busy (g.met.C.Caller.goes_on w.client busy) c.next-ask.ensures refl small v.served v.changes v.noted at.led in
     let size = adv.went.size in
-    let was = at.fit.same_size in
+    let was = at.led.fit.same_size in
     let xs = request_lines k client a r in
     let count : c.note_request.result ≡ length xs = c.note_request.ensures.count in
     let moves = c.in_default.ensures.moves _ _ adv.before adv.after adv.works.knows adv.moved (omega arith) in (
       xs,
       c.note_request.ensures.items,
       record {
-        at = subst (λ (n : ℕ). At g.C.Caller.number g.C.Caller.is_busy g.C.Caller.knows g.C.Caller.left e ks c.take.new.self w.weights w.run w.calls (w.lines + n) (past ++ xs)) (sym count)
-            (at_on g.C.Caller.number g.C.Caller.is_busy g.C.Caller.knows g.C.Caller.left g.met.C.Caller.stable g.C.Caller.asks d e js ks w.client c.take.new.self w.weights w.run w.calls w.lines past k a r adv c.in_default.ensures.number moves.0 moves.1 moves.2 at);
+        at = record {
+          led = subst (λ (n : ℕ). At g.C.Caller.number g.C.Caller.is_busy g.C.Caller.knows g.C.Caller.left e ks c.take.new.self w.weights w.run w.calls (w.lines + n) (past ++ xs)) (sym count)
+              (at_on g.C.Caller.number g.C.Caller.is_busy g.C.Caller.knows g.C.Caller.left g.met.C.Caller.stable g.C.Caller.asks d e js ks w.client c.take.new.self w.weights w.run w.calls w.lines past k a r adv c.in_default.ensures.number moves.0 moves.1 moves.2 at.led);
+          ready = c.in_ok-reply.ensures.ready;
+        };
         block = block_on (story_of past) c.args.line adv.works.mine k a r adv.works.runs adv.call_is;
       },
     )

@@ -1,0 +1,5 @@
+mod InPlaceLemmas
+mod OneNameLemmas
+mod PageLemmas
+mod RecordLemmas
+mod ServeLemmas

@@ -1,0 +1,4 @@
+pub mod Headers
+pub mod OneName
+pub mod Records
+pub mod Served

@@ -1,0 +1,14 @@
+//! A brick in memory, joined of its tables: the directory records and slots, the file records, the
+//! registrations and seals, the locks, and the journal.
+#![tactic(auto)]
+
+mod brick;
+mod locks;
+mod newborn;
+mod parts;
+mod serve;
+
+pub use brick::MemBrick;
+
+#[cfg(test)]
+mod tests;

@@ -1,0 +1,73 @@
+-- The words of requests and replies.
+use Rattle.std.specs.Prelude.{ℕ, List, ◌++◌, codes}
+use Rattle.dht_types.specs.declared.lines.RequestKind.{RequestKind}
+use Rattle.dht_types.specs.declared.lines.RequestKind.TheVariants as request
+use Rattle.dht_types.specs.declared.lines.Refusal.{Refusal}
+use Rattle.dht_types.specs.declared.lines.Refusal.TheVariants as refusal
+use Rattle.dht_types.specs.declared.lines.ReplyKind.{ReplyKind}
+use Rattle.dht_types.specs.declared.lines.ReplyKind.TheVariants as reply
+
+abbrev pub request_word : RequestKind → List ℕ
+request_word request.Lock = codes "lock"
+request_word request.Unlock = codes "unlock"
+request_word request.Register = codes "register"
+request_word request.Unregister = codes "unregister"
+request_word request.Seal = codes "seal"
+request_word request.Look = codes "look"
+request_word request.Page = codes "page"
+request_word request.Dirinfo = codes "dirinfo"
+request_word request.SetLayout = codes "setlayout"
+request_word request.MakeDir = codes "mkdir"
+request_word request.DropDir = codes "dropdir"
+request_word request.Create = codes "create"
+request_word request.MakeLinkto = codes "mklinkto"
+request_word request.DropLinkto = codes "droplinkto"
+request_word request.Unlink = codes "unlink"
+request_word request.Link = codes "link"
+request_word request.LinkOver = codes "linkover"
+request_word request.Contest = codes "contest"
+request_word request.Uncontest = codes "uncontest"
+request_word request.StandLink = codes "standlink"
+request_word request.DropStandLink = codes "dropstandlink"
+request_word request.Swap = codes "swap"
+request_word request.PromoteLink = codes "promotelink"
+request_word request.Orphans = codes "orphans"
+request_word request.Read = codes "read"
+request_word request.Write = codes "write"
+request_word request.LockedWrite = codes "lwrite"
+request_word request.Truncate = codes "truncate"
+request_word request.LockedTruncate = codes "ltruncate"
+request_word request.Stat = codes "stat"
+request_word request.Mark = codes "mark"
+request_word request.Unmark = codes "unmark"
+request_word request.MakeStandby = codes "mkstandby"
+request_word request.StandbyWrite = codes "standbywrite"
+request_word request.CopyWrite = codes "copywrite"
+request_word request.ClearDirty = codes "cleardirty"
+request_word request.DropStandby = codes "dropstandby"
+request_word request.Demote = codes "demote"
+request_word request.Promote = codes "promote"
+request_word request.Drop = codes "drop"
+
+abbrev pub refusal_word : Refusal → List ℕ
+refusal_word refusal.Nodir = codes "nodir"
+refusal_word refusal.Slot = codes "slot"
+refusal_word refusal.NotEmpty = codes "notempty"
+refusal_word refusal.Absent = codes "absent"
+refusal_word refusal.Live = codes "live"
+refusal_word refusal.Moving = codes "moving"
+refusal_word refusal.Standby = codes "standby"
+refusal_word refusal.Forward = codes "forward"
+refusal_word refusal.Links = codes "links"
+refusal_word refusal.Dirty = codes "dirty"
+refusal_word refusal.Sealed = codes "sealed"
+refusal_word refusal.Open = codes "open"
+
+-- a lock that waits has no such word yet; no step line has it
+abbrev pub reply_word : ReplyKind → List ℕ
+reply_word reply.Ok = codes "ok"
+reply_word (reply.Refused why) = codes "refused:" ++ refusal_word why
+reply_word reply.Wait = codes "wait"
+reply_word reply.Down = codes "down"
+reply_word reply.Failed = codes "failed"
+reply_word reply.NoMemory = codes "nomem"
