@@ -1,5 +1,6 @@
 pub mod ListLemmas
 pub mod LocalityLaws
+pub mod LockLaws
 pub mod MapLemmas
 pub mod ResultLemmas
 pub mod RowLaws

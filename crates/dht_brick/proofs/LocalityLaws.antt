@@ -1,5 +1,6 @@
 -- Each request changes a store at its places only.
 use Rattle.std.proofs.Common.{◌≡◌, ◌≢◌, ℕ, Bool, true, false, cond, not, List, [], refl, sym, ap, ◌∙◌}
+use Rattle.std.proofs.lemmas.Bool.{false_from_ne_true}
 use Rattle.std.specs.Prelude.{Option, Some, None, ◌==◌, ◌&&◌}
 use Rattle.std.specs.declared.cmp.Ordering.{Ordering}
 use Rattle.std.specs.declared.cmp.Ordering.TheVariants.{Less, Equal, Greater}
@@ -41,12 +42,8 @@ tied Less e = cc
 tied Equal e = refl
 tied Greater e = cc
 
-not_true : (b : Bool) → (b ≡ true → ⊥) → b ≡ false
-not_true true h = absurd (h refl)
-not_true false h = refl
-
 apart : {K : Type 0} {R : K → K → Ordering} → IsAntisymmetric R → (k q : K) → ◌≢◌ {A = Option K} (Some k) (Some q) → eq_by_cmp R q k ≡ false
-apart {R = R} exact k q differ = not_true (eq_by_cmp R q k) (λ t. differ (ap Some (sym (exact q k (tied (R q k) t)))))
+apart {R = R} exact k q differ = false_from_ne_true (eq_by_cmp R q k) (λ t. differ (ap Some (sym (exact q k (tied (R q k) t)))))
 
 insert_dir : (dirs : Dirs) (g : Gfid) (r : DirRecord) (h : Gfid) → Some g ≢ Some h → get (insert dirs g r) h ≡ get dirs h
 insert_dir dirs g r h differ = get-insert_other gfid_total dirs g r h (apart gfid_exact g h differ)
@@ -64,7 +61,7 @@ put_elsewhere slots e p k differ = put_by (is_bare p) slots e p k (apart entry_e
 outside : (slots : Slots) (g : Gfid) (k : Entry) → Some g ≢ Some k.0 → get (retain_keys slots (λ e. not (same_gfid g e.0))) k ≡ get slots k
 outside slots g k differ =
     get-retain_keys slots (λ e. not (same_gfid g e.0)) k (λ x t. ap (λ (e : Entry). not (same_gfid g e.0)) (sym (entry_exact k x t)))
-    ∙ ap (λ b. cond (not b) (get slots k) None) (not_true (same_gfid g k.0) (λ t. differ (ap Some ((exact_gfid g k.0).0 t))))
+    ∙ ap (λ b. cond (not b) (get slots k) None) (false_from_ne_true (same_gfid g k.0) (λ t. differ (ap Some ((exact_gfid g k.0).0 t))))
 
 -- ---- stores that differ at places
 

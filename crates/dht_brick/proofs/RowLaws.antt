@@ -1,7 +1,7 @@
 -- Laws of all rows: by what they come to, and never by request.
 use Rattle.std.proofs.Common.{◌≡◌, ◌≢◌, refl, sym, ap, ◌∙◌}
 use Rattle.dht_types.specs.declared.identifiers.ClientNo.{ClientNo}
-use Rattle.dht_brick.specs.Bricks.{Answers}
+use Rattle.dht_brick.specs.Bricks.{ServesOrFails}
 use Rattle.dht_brick.specs.Contents.{Contents}
 use Rattle.dht_brick.specs.Laws.{RefusalsChangeNothing, WaitsChangeNothing, ServedByRow, RowServes, NamesServe, FilesServe, RegisterServes, UnregisterServes, SealServes, LockServes, UnlockServes}
 use Rattle.dht_brick.specs.Outcome.{Outcome, Do, Refuse, Await, Serves, within, reply_in, left_by}
@@ -48,7 +48,7 @@ pub row_serves : RowServes
 row_serves bricks client call q old = serves (row bricks client call q old) old
 
 -- a part that serves a request is in the whole
-whole_answers : {A : Type 0} (whole : A → Contents) (outcome : Outcome A) (old : A) (r : Reply) (new : A) → Serves outcome old r new → Answers (within whole outcome) (whole old) r (whole new)
+whole_answers : {A : Type 0} (whole : A → Contents) (outcome : Outcome A) (old : A) (r : Reply) (new : A) → Serves outcome old r new → ServesOrFails (within whole outcome) (whole old) r (whole new)
 whole_answers whole outcome old (reply.Ok given) new s = ap (within whole) s
 whole_answers whole outcome old (reply.Refused why) new s = (ap (within whole) s.0, ap whole s.1)
 whole_answers whole outcome old (reply.Wait holder) new s = (ap (within whole) s.0, ap whole s.1)

@@ -80,7 +80,7 @@ module _ (g : Gfid) where
   same_dir : (e q : Entry) → eq_by_cmp entry_cmp q e ≡ true → same_gfid g q.0 ≡ same_gfid g e.0
   same_dir e q t = ap (λ (k : Entry). same_gfid g k.0) (entry_exact q e (tied (entry_cmp q e) t))
 
-  -- an entry of the directory in front
+  -- an entry of the directory first
   one_here : (e : Entry × Slot) (q : Entry) (rest : Option Slot) (slots : Slots) (others : List (Entry × Slot)) → same_gfid g e.0.0 ≡ true
       → rest ≡ looked_up others slots q → cond (eq_by_cmp entry_cmp q e.0) (Some e.1) rest ≡ looked_up (e ∷ others) slots q
   one_here e q rest slots others is_here so_far =
@@ -89,7 +89,7 @@ module _ (g : Gfid) where
         | false ↦ λ t. so_far
       ] refl
 
-  -- an entry of another directory in front
+  -- an entry of another directory first
   one_elsewhere : (e : Entry × Slot) (q : Entry) (slots : Slots) (others : List (Entry × Slot)) → same_gfid g e.0.0 ≡ false → looked_up others slots q ≡ looked_up (e ∷ others) slots q
   one_elsewhere e q slots others elsewhere =
       elim (eq_by_cmp entry_cmp q e.0) as (λ b. eq_by_cmp entry_cmp q e.0 ≡ b → looked_up others slots q ≡ cond (same_gfid g q.0) (first_of (cond b (Some e.1) (find entry_cmp q others)) (get slots q)) (get slots q)) [

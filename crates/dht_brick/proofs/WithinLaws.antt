@@ -29,26 +29,28 @@ use Rattle.dht_types.specs.declared.stored.Record.TheVariants.{Live, Moving, Sta
 use Rattle.dht_guard.specs.FileTable.{file_cell_of}
 use Rattle.dht_guard.specs.declared.cells.Cell.{Cell}
 use Rattle.dht_guard.specs.declared.cells.Cell.TheVariants as cell
-use Rattle.dht_brick.specs.Contents.{Contents, Store, Opens, bare, dir, slot, file}
+use Rattle.dht_brick.specs.Contents.{Contents, Store, Opens, Locks, bare, dir, slot, file}
 use Rattle.dht_brick.specs.FileRows.{guarded, record_row, file_row, state_refusal, on_record, on_moving, on_standby, on_bytes, saved, copy_made, new_copy, is_same_copy, takes_copy, copy_name, changed, copied_in, without_copy, hop_above, hop_below}
 use Rattle.dht_brick.specs.Kinds.{row_of}
+use Rattle.dht_brick.specs.LockRows.{awaited, unless_awaited}
 use Rattle.dht_brick.specs.Laws.{RowsStayWithin, RepliesAreWithin, NewbornIsWithin, FreedStaysWithin, RemountedStaysWithin, PokedStaysWithin, GrownStaysWithin}
 use Rattle.dht_brick.specs.Links.{links, is_marked, is_occupied}
-use Rattle.dht_brick.specs.Looks.{page_of, page_entry, is_on_page, dir_at, dest_of, file_look, page_size, hop_of, bytes_of, file_at}
+use Rattle.dht_brick.specs.Looks.{page_of, page_entry, is_on_page, dir_at, dest_of, file_look, page_size, hop_of, bytes_of, file_or_readied}
 use Rattle.dht_brick.specs.NameRows.{when, slot_row, beside, given_by, on_slot, slot_change, if_empty, name_row}
 use Rattle.dht_brick.specs.Named.{name_named, file_of}
 use Rattle.dht_brick.specs.OpenRows.{registrations, is_sealed}
 use Rattle.dht_brick.specs.Outcome.{Outcome, Do, Refuse, Await, in_dir, within, reply_in, left_by}
 use Rattle.dht_brick.specs.Parts.{is_bare, is_vacant, is_plain, is_copy, is_forward, main_shown, state_of, put_slot, with_main, with_standby, without_standby, with_dir, with_slot, with_file, without_dir, without_file}
-use Rattle.dht_brick.specs.Rows.{row, with_store, with_opens}
+use Rattle.dht_brick.specs.Rows.{row, with_store, with_opens, with_locks}
 use Rattle.dht_brick.specs.Within.{NameMayBeSent, FileMayBeSent, MayBeSent, IsBrick, IsHomed, DirIsWithin, MainIsWithin, SlotIsWithin, RecordIsWithin, StoreIsWithin, PageEntryIsWithin, GivenIsWithin, ShownIsWithin, WhyIsWithin, ReplyIsWithin}
 use Rattle.dht_brick.specs.declared.pokes.PokeAt.TheVariants as poke
+use Rattle.dht_brick.specs.declared.replies.Given.TheVariants as given
 use Rattle.dht_brick.specs.declared.requests.NameRequest.{NameRequest}
 use Rattle.dht_brick.specs.declared.requests.NameRequest.TheVariants.{Look, Page, Dirinfo, SetLayout, MakeDir, DropDir, Create, Unlink, Contest, StandLink, DropStandLink, Orphans}
 use Rattle.dht_brick.specs.declared.requests.FileRequest.{FileRequest}
 use Rattle.dht_brick.specs.declared.requests.FileRequest.TheVariants.{Read, Stat, Mark, Unmark, MakeStandby, StandbyWrite, CopyWrite, ClearDirty, DropStandby, Demote, Promote, Drop}
 use Rattle.dht_brick.specs.declared.requests.Request.{Request}
-use Rattle.dht_brick.specs.declared.requests.Request.TheVariants.{Register, Seal, OnNames, OnFile}
+use Rattle.dht_brick.specs.declared.requests.Request.TheVariants.{Lock, Register, Seal, OnNames, OnFile}
 use Rattle.dht_brick.proofs.TableLemmas.{gfid_total, gfid_exact, entry_total, entry_exact}
 
 -- ---- what holds of each key and value of a map
@@ -240,7 +242,7 @@ if_empty_within count true (Do given new) h = tt
 if_empty_within count b outcome h = h
 
 name_row_within : (count : ℕ) (bricks : List (List ℕ)) (q : NameRequest) (s : Store) → NameMayBeSent count q → StoreIsWithin count s → OutcomeIsWithin count (name_row bricks q s)
-name_row_within count bricks (Look d n) s sent h = in_dir_within count s h d _ (λ r known. ((slot_is_within count s h (d, n), look_is_within count s h (file_at (slot s (d, n)))), h))
+name_row_within count bricks (Look d n) s sent h = in_dir_within count s h d _ (λ r known. ((slot_is_within count s h (d, n), look_is_within count s h (file_or_readied (slot s (d, n)))), h))
 name_row_within count bricks (Page d after) s sent h = in_dir_within count s h d _ (λ r known. (page_is_within count s h d after, h))
 name_row_within count bricks (Dirinfo d) s sent h = in_dir_within count s h d _ (λ r known. (known.1, h))
 name_row_within count bricks (SetLayout d value) s sent h = in_dir_within count s h d _ (λ r known. (tt, with_dir_within count s h d (record r { value = value }) known))
@@ -338,7 +340,13 @@ of_store count c (Await holder) h k = (h, tt)
 of_opens : (count : ℕ) (c : Contents) (b : Bool) (x y : Outcome Opens) → RowIsWithin count (within (with_opens c) x) c → RowIsWithin count (within (with_opens c) y) c → RowIsWithin count (within (with_opens c) (cond b x y)) c
 of_opens count c b x y h k = cond_both b x y (λ r. RowIsWithin count (within (with_opens c) r) c) (λ t. h) (λ t. k)
 
+-- nor are locks
+of_locks : (count : ℕ) (c : Contents) (holder : Option ℕ) (new : Locks) → StoreIsWithin count c.store → RowIsWithin count (within (with_locks c) (unless_awaited holder (Do given.Nothing new))) c
+of_locks count c None new h = (h, tt)
+of_locks count c (Some n) new h = (h, tt)
+
 row_is_within : (count : ℕ) (bricks : List (List ℕ)) (client : ClientNo) (call : CallNo) (q : Request) (c : Contents) → StoreIsWithin count c.store → MayBeSent count q → RowIsWithin count (row bricks client call q c) c
+row_is_within count bricks client call (Lock key mode) c h sent = of_locks count c (awaited c.locks client key mode) _ h
 row_is_within count bricks client call (Register f) c h sent = of_opens count c (is_sealed c.opens f) _ _ (h, tt) (h, tt)
 row_is_within count bricks client call (Seal f) c h sent = of_opens count c (registrations c.opens f == 0) _ _ (h, tt) (h, tt)
 row_is_within count bricks client call (OnNames q) c h sent = of_store count c (name_row bricks q c.store) h (name_row_within count bricks q c.store sent h)

@@ -37,13 +37,13 @@ is_unreachable is_up (Unlock key) = false
 is_unreachable is_up q = not is_up
 
 -- the reply is of this outcome, and the old became the new; or nothing was done
-abbrev pub Answers : Outcome Contents → Contents → Reply → Contents → Type 0
-Answers outcome old (reply.Ok given) new = outcome ≡ Do given new
-Answers outcome old (reply.Refused why) new = (outcome ≡ Refuse why) × (new ≡ old)
-Answers outcome old (reply.Wait holder) new = (outcome ≡ Await holder) × (new ≡ old)
-Answers outcome old reply.Down new = new ≡ old
-Answers outcome old reply.Failed new = new ≡ old
-Answers outcome old reply.NoMemory new = new ≡ old
+abbrev pub ServesOrFails : Outcome Contents → Contents → Reply → Contents → Type 0
+ServesOrFails outcome old (reply.Ok given) new = outcome ≡ Do given new
+ServesOrFails outcome old (reply.Refused why) new = (outcome ≡ Refuse why) × (new ≡ old)
+ServesOrFails outcome old (reply.Wait holder) new = (outcome ≡ Await holder) × (new ≡ old)
+ServesOrFails outcome old reply.Down new = new ≡ old
+ServesOrFails outcome old reply.Failed new = new ≡ old
+ServesOrFails outcome old reply.NoMemory new = new ≡ old
 
 -- what is left of something, and what else becomes of it unless the reply is that the brick is down
 abbrev pub unless_down : {A : Type 0} → Reply → A → A → A
@@ -52,8 +52,8 @@ unless_down r old new = new
 
 -- a request of a call of a client was served
 pub record ServesRequest (client : ClientNo) (call : CallNo) (q : Request) (old : BrickState) (r : Reply) (new : BrickState) : Type 0 where
-  -- the reply is by the row, but for a brick that is down, that failed, or that had no memory
-  pub row : Answers (row old.volume.names client call q old.contents) old.contents r new.contents
+  -- the reply is by the row, but for a brick that is down, that failed, or that was out of memory
+  pub row : ServesOrFails (row old.volume.names client call q old.contents) old.contents r new.contents
   pub down : (r ≡ reply.Down) ↔ (is_unreachable old.is_up q ≡ true)
   pub failed : r ≡ reply.Failed → HasFault old.faults new.faults
   pub cause : r ≡ reply.Failed → old.is_faultless ≡ true → old.is_armed ≡ true

@@ -3,13 +3,18 @@ use Rattle.std.specs.Prelude.{ℕ, ◌≡◌, ◌≢◌, Option, Some, None, Lis
 use Rattle.std.specs.FinMap.{get}
 use Rattle.dht_types.specs.Gfid.{Entry}
 use Rattle.dht_types.specs.declared.identifiers.Gfid.{Gfid}
+use Rattle.dht_types.specs.declared.identifiers.ClientNo.{ClientNo}
+use Rattle.dht_types.specs.declared.identifiers.CallNo.{CallNo}
+use Rattle.dht_types.specs.declared.locks.Key.{Key}
 use Rattle.dht_types.specs.declared.stored.Record.{Record}
 use Rattle.dht_types.specs.declared.stored.Record.TheVariants.{Standby as Copied}
-use Rattle.dht_brick.specs.Contents.{Store, file}
+use Rattle.dht_brick.specs.Contents.{Contents, Store, file}
 use Rattle.dht_brick.specs.FileRows.{file_row, copy_name}
 use Rattle.dht_brick.specs.NameRows.{name_row}
 use Rattle.dht_brick.specs.Named.{name_named, file_of}
 use Rattle.dht_brick.specs.Outcome.{Outcome, Do, Refuse, Await}
+use Rattle.dht_brick.specs.Rows.{after}
+use Rattle.dht_brick.specs.declared.requests.Request.{Request}
 use Rattle.dht_brick.specs.declared.requests.NameRequest.{NameRequest}
 use Rattle.dht_brick.specs.declared.requests.NameRequest.TheVariants.{Look, Page, Dirinfo, SetLayout, MakeDir, DropDir, Create, Orphans}
 use Rattle.dht_brick.specs.declared.requests.FileRequest.{FileRequest}
@@ -69,3 +74,8 @@ NamesAreLocal = (bricks : List (List ℕ)) (q : NameRequest) (s : Store) → IsL
 
 abbrev pub FilesAreLocal : Type 0
 FilesAreLocal = (bricks : List (List ℕ)) (q : FileRequest) (s : Store) → IsLocal (file_places q (file s (file_of q))) s (file_row bricks q s)
+
+-- a request changes no lock of another client
+abbrev pub LocksAreLocal : Type 0
+LocksAreLocal = (bricks : List (List ℕ)) (client : ClientNo) (call : CallNo) (q : Request) (c : Contents) (key : Key) (other : ℕ)
+    → other ≢ client.0 → (after bricks client call q c).locks key other ≡ c.locks key other

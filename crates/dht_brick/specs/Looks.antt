@@ -75,8 +75,8 @@ file_or (Some (File f over)) other = Some f
 file_or m other = other
 
 -- the file of the name, or else the one for which it is readied
-abbrev pub file_at : Slot → Option Gfid
-file_at p = file_or p.main (readied p.standby)
+abbrev pub file_or_readied : Slot → Option Gfid
+file_or_readied p = file_or p.main (readied p.standby)
 
 -- the file whose copy is at the name
 abbrev pub copy_at : Option Standby → Option Gfid
@@ -86,7 +86,7 @@ copy_at p = None
 abbrev pub look_of : Store → Entry → DirRecord → Look
 look_of s e r = record {
   slot = slot s e;
-  file = option_map (file_look s) (file_at (slot s e));
+  file = option_map (file_look s) (file_or_readied (slot s e));
   copy = option_map (file_hop s) (copy_at (slot s e).standby);
   value = r.value;
 }

@@ -39,7 +39,7 @@ in_dir (Some r) outcome = outcome r
 abbrev pub unless : {A : Type 0} → Bool → Why → Outcome A → Outcome A
 unless test why outcome = if test then Refuse why else outcome
 
--- the reply is of this outcome, and the old became the new; or there was no memory, and nothing was done
+-- the reply is of this outcome, and the old became the new; or memory ran out, and nothing was done
 abbrev pub Serves : {A : Type 0} → Outcome A → A → Reply → A → Type 0
 Serves outcome old (reply.Ok given) new = outcome ≡ Do given new
 Serves outcome old (reply.Refused why) new = (outcome ≡ Refuse why) × (new ≡ old)

@@ -32,14 +32,14 @@ Leaves state f (Do given new) = state_of (file new f) ≡ state
 Leaves state f (Refuse why) = Unit {0}
 Leaves state f (Await holder) = Unit {0}
 
-abbrev pub IsDone : Outcome Store → Type 0
-IsDone outcome = (given : Given) × ((new : Store) × (outcome ≡ Do given new))
+abbrev pub IsCarriedOut : Outcome Store → Type 0
+IsCarriedOut outcome = (given : Given) × ((new : Store) × (outcome ≡ Do given new))
 
 -- a cell that refuses names the state, one that keeps changes nothing, and one without a test always changes
 abbrev pub Obeys : Cell → Store → Why → Outcome Store → Type 0
 Obeys cell.Refuse s why outcome = outcome ≡ Refuse why
 Obeys cell.Keep s why outcome = (given : Given) × (outcome ≡ Do given s)
-Obeys (cell.To next) s why outcome = IsDone outcome
+Obeys (cell.To next) s why outcome = IsCarriedOut outcome
 Obeys (cell.Test next) s why outcome = Unit {0}
 
 -- the rows are those of the table

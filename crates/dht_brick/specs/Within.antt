@@ -1,7 +1,8 @@
 -- The requests that may be sent to a brick: by the bricks that they name, and their sizes. And what is stored and replied: by the bricks that it names.
-use Rattle.std.specs.Prelude.{ℕ, ◌<◌, ◌≤◌, ◌≢◌, Option, Some, None, IfSome, List, All, length}
+use Rattle.std.specs.Prelude.{ℕ, ◌<◌, ◌≢◌, Option, IfSome, All}
 use Rattle.std.specs.FinMap.{get}
 use Rattle.dht_types.specs.Gfid.{Entry, home, root}
+use Rattle.dht_types.specs.Saved.{IsValue}
 use Rattle.dht_types.specs.declared.identifiers.Gfid.{Gfid}
 use Rattle.dht_types.specs.declared.identifiers.BrickNo.{BrickNo}
 use Rattle.dht_types.specs.declared.names.EntryKey.{EntryKey}
@@ -29,22 +30,14 @@ use Rattle.dht_brick.specs.declared.requests.FileRequest.TheVariants.{Mark, Make
 use Rattle.dht_brick.specs.declared.requests.Request.{Request}
 use Rattle.dht_brick.specs.declared.requests.Request.TheVariants.{OnNames, OnFile}
 
--- the value of an attribute
-abbrev pub IsValue : List ℕ → Type 0
-IsValue value = length value ≤ 65535
-
-abbrev pub IsNoneOrValue : Option (List ℕ) → Type 0
-IsNoneOrValue None = Unit {0}
-IsNoneOrValue (Some value) = IsValue value
-
 -- a directory that is made is not the root, and its home is one of so many bricks
 abbrev pub MayBeMade : ℕ → Gfid → Type 0
 MayBeMade count g = (home g < count) × (g ≢ root)
 
 -- each brick that is named is one of so many, and each value is one
 abbrev pub NameMayBeSent : ℕ → NameRequest → Type 0
-NameMayBeSent count (SetLayout d value) = IsNoneOrValue value
-NameMayBeSent count (MakeDir d n g depth value) = MayBeMade count g × IsNoneOrValue value
+NameMayBeSent count (SetLayout d value) = IfSome value IsValue
+NameMayBeSent count (MakeDir d n g depth value) = MayBeMade count g × IfSome value IsValue
 NameMayBeSent count (MakeLinkto d n value) = IsValue value
 NameMayBeSent count (Contest d n f brick) = brick.0 < count
 NameMayBeSent count (Swap d n f value) = IsValue value

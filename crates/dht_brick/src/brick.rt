@@ -5,7 +5,8 @@ ghost use Rattle.std.specs.Option.{option_map, option_copied};
 ghost use Rattle.dht_brick.specs.Bricks.{BrickState, ServesRequest, Pokes};
 ghost use Rattle.dht_brick.specs.Dump.{dump_of};
 ghost use Rattle.dht_brick.specs.Events.{freed, remounted, value_of, census_of};
-ghost use Rattle.dht_brick.specs.Within.{MayBeSent, IsValue};
+ghost use Rattle.dht_types.specs.Saved.{IsValue};
+ghost use Rattle.dht_brick.specs.Within.{MayBeSent};
 
 use super::census::Census;
 use super::pokes::{PokeAt, PokeFault};
@@ -24,7 +25,7 @@ pub trait Brick: Sized {
 
     /// Serves one request of a client's call, at once. Where it is down, only an unlock is served, and
     /// nothing is noted. Else it fails, where it is armed; or it carries the request out or refuses it
-    /// by the request's row; or it has no memory for it. Where it failed or had no memory, it did
+    /// by the request's row; or it is out of memory. Where it failed or was out of memory, it did
     /// nothing with what it contains. Each reply but `Down` has an entry in its journal.
     fn serve(&mut self, client: ClientNo, call: CallNo, request: &Request) -> Reply
         requires spare { 1 ≤ (state self.old).spare }
@@ -41,7 +42,8 @@ pub trait Brick: Sized {
 
     /// Takes away all locks and registrations of a client, also while it is down.
     fn free_client(&mut self, client: ClientNo)
-        ensures { state self.new ≡ record (state self.old) { contents = freed client.0 (state self.old).contents } };
+        ensures { state self.new
+            ≡ record (state self.old) { contents = freed client.0 (state self.old).contents } };
 
     /// Takes away all locks, registrations, seals and pointers to where files went. From now on the
     /// brick knows this volume, by whose names it writes and reads linkto values.
@@ -57,7 +59,8 @@ pub trait Brick: Sized {
     /// Makes room for one more entry of the journal, and changes nothing else.
     fn make_room(&mut self) -> Result<(), AllocError>
         ensures room { OnOk result (1 ≤ (state self.new).spare) }
-        ensures same { OnOk result (state self.new ≡ record (state self.old) { spare = (state self.new).spare }) }
+        ensures same { OnOk result (state self.new
+            ≡ record (state self.old) { spare = (state self.new).spare }) }
         ensures err { OnErr result (state self.new ≡ state self.old) };
 
     /// Sets the attribute of a directory, or a linkto, also while the brick is down. `Slot` comes
@@ -69,7 +72,8 @@ pub trait Brick: Sized {
 
     /// The attribute of a directory, if there is a record of it, and if the record has one.
     fn value(&self, dir: Gfid) -> Option<Option<&[u8]>>
-        ensures { option_map option_copied result ≡ value_of (state self.now).contents.store.dirs dir };
+        ensures { option_map option_copied result
+            ≡ value_of (state self.now).contents.store.dirs dir };
 
     /// How much it contains.
     fn census(&self) -> Census

@@ -1,7 +1,7 @@
 //! How much a brick contains.
 
 /// How much a brick contains.
-#[derive(Clone, Copy, Debug, PartialEq, Eq)]
+#[derive(Clone, Copy, PartialEq, Eq)]
 pub struct Census {
     /// The number of directory records.
     pub dirs: u64,

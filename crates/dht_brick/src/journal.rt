@@ -12,7 +12,7 @@ use std::alloc::{AllocError, Global};
 use std::marker::Model;
 
 /// What a brick notes of a request that it served. It needs no memory of its own.
-#[derive(Clone, Copy, Debug)]
+#[derive(Clone, Copy)]
 pub struct JournalEntry {
     /// Who asked.
     pub client: ClientNo,
@@ -64,7 +64,10 @@ impl Model for Journal {
 
     ghost Value = { Entries };
 
-    ghost view = { λ j. record { each = j.entries.items; spare = vec_capacity j.entries - vec_len j.entries } };
+    ghost view = { λ j. record {
+      each = j.entries.items;
+      spare = vec_capacity j.entries - vec_len j.entries;
+    } };
 }
 
 impl Journal {
@@ -96,11 +99,9 @@ impl Journal {
     /// Adds an entry, for which there is room. It takes no memory.
     pub fn note(&mut self, entry: JournalEntry)
         requires { 1 ≤ self.old.spare }
-        ensures { self.new ≡ record { each = self.old.each ++ entry ∷ []; spare = self.old.spare - 1 } }
+        ensures { self.new
+            ≡ record { each = self.old.each ++ entry ∷ []; spare = self.old.spare - 1 } }
     {
         self.entries.push_reserved(entry);
     }
 }
-
-#[cfg(test)]
-mod tests;

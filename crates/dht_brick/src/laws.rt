@@ -2,8 +2,8 @@
 
 ghost use Rattle.std.specs.Coded.{Coded};
 ghost use Rattle.dht_brick.specs.Contents.{Tables, Files, Opens};
-ghost use Rattle.dht_brick.specs.Laws.{RefusalsChangeNothing, WaitsChangeNothing, ServedByRow, RowServes, NamesServe, FilesServe, RegisterServes, UnregisterServes, SealServes, LockServes, UnlockServes, FileIsRestored, DirIsRestored, NewbornShowsTheRoot, NeverIsNotInMemory, RowsStayWithin, RepliesAreWithin, NewbornIsWithin, FreedStaysWithin, RemountedStaysWithin, PokedStaysWithin, GrownStaysWithin};
-ghost use Rattle.dht_brick.specs.Locality.{NamesAreLocal, FilesAreLocal};
+ghost use Rattle.dht_brick.specs.Laws.{RefusalsChangeNothing, WaitsChangeNothing, ServedByRow, RowServes, NamesServe, FilesServe, RegisterServes, UnregisterServes, SealServes, LockServes, UnlockServes, FreeLocksAreGranted, HeldLocksAreAwaited, FileIsRestored, DirIsRestored, NewbornShowsTheRoot, NeverIsNotInMemory, RowsStayWithin, RepliesAreWithin, NewbornIsWithin, FreedStaysWithin, RemountedStaysWithin, PokedStaysWithin, GrownStaysWithin};
+ghost use Rattle.dht_brick.specs.Locality.{NamesAreLocal, FilesAreLocal, LocksAreLocal};
 ghost use Rattle.dht_brick.specs.Table.{LeavesAsTheTable, ObeysTheTable};
 
 /// A request that is refused, or waits, changes nothing.
@@ -12,7 +12,7 @@ pub fn refusals_change_nothing()
     ensures waits { WaitsChangeNothing }
 {}
 
-/// A request that was served, and not for want of memory, has the reply of its row, and leaves what
+/// A request that was served, and did not run out of memory, has the reply of its row, and leaves what
 /// the row leaves.
 pub fn served_is_by_row()
     ensures served { ServedByRow }
@@ -27,10 +27,12 @@ pub fn file_rows_are_of_the_table()
 {}
 
 /// A request about names or about a file changes at most one slot, the record of one directory and that
-/// of one file; where a directory is dropped, the slots in it go too.
+/// of one file; where a directory is dropped, the slots in it go too. No request changes a lock of
+/// another client.
 pub fn requests_are_local()
     ensures names { NamesAreLocal }
     ensures files { FilesAreLocal }
+    ensures locks { LocksAreLocal }
 {}
 
 /// What a part of a brick serves, the brick serves.
@@ -42,6 +44,13 @@ pub fn parts_serve()
     ensures seal { SealServes }
     ensures lock { LockServes }
     ensures unlock { UnlockServes }
+{}
+
+/// A lock is waited for exactly where another client holds it in a mode that excludes the one asked
+/// for, and the lowest such client is named.
+pub fn only_held_locks_are_awaited()
+    ensures granted { FreeLocksAreGranted }
+    ensures awaited { HeldLocksAreAwaited }
 {}
 
 /// What was saved of a file or a directory and is restored is as it was.

@@ -7,7 +7,6 @@ pub mod census;
 pub mod files;
 pub mod journal;
 pub mod laws;
-pub mod machines;
 pub mod opens;
 pub mod order;
 pub mod pokes;

@@ -7,7 +7,7 @@ use dht_types::names::Name;
 use std::alloc::AllocError;
 
 /// Where a value is set.
-#[derive(Clone, Copy, Debug)]
+#[derive(Clone, Copy)]
 pub enum PokeAt {
     /// The attribute of a directory.
     Layout(Gfid),
@@ -16,13 +16,13 @@ pub enum PokeAt {
 }
 
 /// Why a value was not set.
-#[derive(Clone, Copy, Debug, PartialEq, Eq)]
+#[derive(Clone, Copy, PartialEq, Eq)]
 pub enum PokeFault {
     /// The brick has no record of the directory, or a directory or a file is at the name.
     Slot,
     /// The brick failed.
     Failed,
-    /// There was no memory for it.
+    /// Memory ran out.
     OutOfMemory,
 }
 

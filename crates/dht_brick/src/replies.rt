@@ -12,7 +12,7 @@ use dht_types::stored::{Slot, Standby};
 use std::marker::Model;
 
 /// What a look shows of the record of a file.
-#[derive(Clone, Copy, Debug)]
+#[derive(Clone, Copy)]
 pub struct FileLook {
     /// The record's state.
     pub state: State,
@@ -25,7 +25,7 @@ pub struct FileLook {
 }
 
 /// What stands at a name of a directory.
-#[derive(Debug, Drop)]
+#[derive(Drop)]
 pub struct Look {
     /// The parts of the slot.
     pub slot: Slot,
@@ -38,7 +38,7 @@ pub struct Look {
 }
 
 /// What a brick has of a directory.
-#[derive(Debug, Drop)]
+#[derive(Drop)]
 pub struct DirInfo {
     /// The directory above it and its name there; the root alone has none.
     pub place: Option<EntryKey>,
@@ -51,7 +51,7 @@ pub struct DirInfo {
 }
 
 /// What a brick has of a file.
-#[derive(Clone, Copy, Debug)]
+#[derive(Clone, Copy)]
 pub struct Stat {
     /// How many bytes it has.
     pub length: u64,
@@ -64,7 +64,7 @@ pub struct Stat {
 }
 
 /// A name of a directory, and its directory where it is one.
-#[derive(Clone, Copy, Debug)]
+#[derive(Clone, Copy)]
 pub struct PageEntry {
     /// The name.
     pub name: Name,
@@ -73,7 +73,7 @@ pub struct PageEntry {
 }
 
 /// Names of a directory in their order. Contracts see a list.
-#[derive(Debug, Drop)]
+#[derive(Drop)]
 pub struct Page {
     each: Vec<PageEntry>,
 }
@@ -104,7 +104,7 @@ impl Page {
 }
 
 /// Files in their order. Contracts see a list.
-#[derive(Debug, Drop)]
+#[derive(Drop)]
 pub struct Gfids {
     each: Vec<Gfid>,
 }
@@ -135,7 +135,7 @@ impl Gfids {
 }
 
 /// What a brick gives with a request that it carried out.
-#[derive(Debug, Drop)]
+#[derive(Drop)]
 pub enum Given {
     /// Nothing.
     Nothing,
@@ -158,7 +158,7 @@ pub enum Given {
 }
 
 /// The main part of a slot as a refusal shows it: without the value of a linkto.
-#[derive(Clone, Copy, Debug)]
+#[derive(Clone, Copy)]
 pub enum MainShown {
     Dir(Gfid),
     File(Gfid, Option<BrickNo>),
@@ -166,14 +166,14 @@ pub enum MainShown {
 }
 
 /// The parts of a slot as a refusal shows them.
-#[derive(Clone, Copy, Debug)]
+#[derive(Clone, Copy)]
 pub struct SlotShown {
     pub main: Option<MainShown>,
     pub standby: Option<Standby>,
 }
 
 /// Why a brick refused a request.
-#[derive(Clone, Copy, Debug)]
+#[derive(Clone, Copy)]
 pub enum Why {
     /// It has no record of the directory.
     Nodir,
@@ -203,7 +203,7 @@ pub enum Why {
 }
 
 /// What a brick replies.
-#[derive(Debug, Drop)]
+#[derive(Drop)]
 pub enum Reply {
     /// The request was carried out.
     Ok(Given),
@@ -215,7 +215,7 @@ pub enum Reply {
     Down,
     /// The brick failed, and nothing was changed.
     Failed,
-    /// There was no memory for it, and nothing was changed.
+    /// The brick was out of memory, and nothing was changed.
     NoMemory,
 }
 

@@ -14,7 +14,7 @@ use dht_types::names::Name;
 /// A request about directories and names. Most name a slot first: a directory and a name in it. Each
 /// that names a directory is refused as `Nodir` where the brick has no record of it, and then as
 /// `Slot` where the slot, or the record of a file that is named, is not as the request wants it.
-#[derive(Debug, Drop)]
+#[derive(Drop)]
 pub enum NameRequest {
     /// What stands at a name of a directory.
     Look(Gfid, Name),
@@ -66,7 +66,7 @@ pub enum NameRequest {
 }
 
 /// How a writer changes the bytes of a file.
-#[derive(Debug, Drop)]
+#[derive(Drop)]
 pub enum Change {
     /// Writes these bytes at an offset.
     Write(u64, Bytes),
@@ -76,7 +76,7 @@ pub enum Change {
 
 /// A request about a file's record, which is named first. What it does in each state of the record is
 /// a row of dht_guard's table.
-#[derive(Debug, Drop)]
+#[derive(Drop)]
 pub enum FileRequest {
     /// Bytes from an offset on, at most so many and none past the end.
     Read(Gfid, u64, u64),
@@ -121,7 +121,7 @@ pub enum FileRequest {
 }
 
 /// A request to a brick.
-#[derive(Debug, Drop)]
+#[derive(Drop)]
 pub enum Request {
     /// To hold a lock.
     Lock(Key, Mode),

@@ -4,7 +4,7 @@ use dht_guard::State;
 use dht_types::identifiers::BrickNo;
 
 /// The outline of a file's record. Each number that the record does not have is 0.
-#[derive(Clone, Copy, Debug)]
+#[derive(Clone, Copy)]
 pub struct Shape {
     /// Its state.
     pub state: State,

@@ -1,7 +1,7 @@
 //! What the shown parts of a slot tell of it.
 
 ghost use Rattle.std.specs.Prelude.{◌≡◌};
-ghost use Rattle.dht_brick.specs.Looks.{file_at, copy_at, dir_at};
+ghost use Rattle.dht_brick.specs.Looks.{file_or_readied, copy_at, dir_at};
 ghost use Rattle.dht_brick.specs.Parts.{is_vacant, is_linkto, is_dir, is_file, is_plain, is_contested, is_over, is_standlink, is_copy, is_bare, is_free, is_visible, slot_shown};
 ghost use Rattle.dht_types.specs.declared.stored.Slot.{Slot};
 
@@ -127,7 +127,7 @@ impl SlotShown {
 
     /// The file of the name, or else the one for which it is readied.
     pub fn file(self) -> Option<Gfid>
-        ensures { (p : Slot) → self ≡ slot_shown p → result ≡ file_at p }
+        ensures { (p : Slot) → self ≡ slot_shown p → result ≡ file_or_readied p }
     {
         match (self.main, self.standby) {
             (Some(MainShown::File(file, _)), _) => Some(file),

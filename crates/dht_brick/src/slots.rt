@@ -1,11 +1,11 @@
 //! The slots of a brick, as the requests about files use them.
 
-ghost use Rattle.std.specs.Prelude.{◌≡◌, false, is_some, None, OnOk, OnErr};
+ghost use Rattle.std.specs.Prelude.{◌≡◌, false, true, is_some, None, OnOk, OnErr};
 ghost use Rattle.std.specs.FinMap.{get};
 ghost use Rattle.dht_types.specs.Linkto.{linkto_value};
 ghost use Rattle.dht_brick.specs.Contents.{Tables, entry_at, slot_in, bare};
 ghost use Rattle.dht_brick.specs.Links.{links, is_marked};
-ghost use Rattle.dht_brick.specs.Parts.{is_bare, put_slot, slot_shown, with_main, with_standby, without_standby};
+ghost use Rattle.dht_brick.specs.Parts.{is_bare, is_copy, put_slot, slot_shown, with_main, with_standby, without_standby};
 
 use super::replies::SlotShown;
 use dht_types::identifiers::{BrickNo, Gfid};
@@ -61,10 +61,11 @@ pub trait Slots {
               (Main.Linkto (linkto_value (tables self.old).bricks brick.0)));
         } };
 
-    /// The name is this file's from now on, and no standby is at it. The slot is there, so that it
-    /// takes no memory.
+    /// The name, where the copy of this file stands, is this file's from now on, and no standby is at
+    /// it. It takes no memory.
     fn put_file(&mut self, key: &EntryKey, file: Gfid)
-        requires { is_bare (slot_in (tables self.old).slots (entry_at key.now)) ≡ false }
+        requires there { is_bare (slot_in (tables self.old).slots (entry_at key.now)) ≡ false }
+        requires copy { is_copy file (slot_in (tables self.old).slots (entry_at key.now)).standby ≡ true }
         ensures { tables self.new ≡ record (tables self.old) {
           slots = put_slot (tables self.old).slots (entry_at key.now) (with_main bare (Main.File file None));
         } };

@@ -13,7 +13,8 @@ use Rattle.dht_brick.specs.declared.requests.NameRequest.TheVariants.{Look}
 use Rattle.dht_brick.specs.declared.requests.Request.TheVariants.{OnNames}
 use Rattle.dht_brick.specs.declared.replies.Reply.{Reply}
 use Rattle.dht_section.specs.Scene.{Scene, Moved}
-use Rattle.dht_section.specs.Begins.{Begins, IsInRoot}
+use Rattle.dht_section.specs.Begins.{Begins}
+use Rattle.dht_types.specs.Calls.{IsInRoot}
 use Rattle.dht_section.specs.Section.{IsFresh, section_asks}
 use Rattle.dht_section.specs.declared.section.Location.{Location}
 use Rattle.dht_section.specs.declared.section.Section.TheVariants.{LockingDirectory}
@@ -24,7 +25,7 @@ use Rattle.dht_client.specs.Program.{program_asks, program_left, program_locks, 
 use Rattle.dht_client.specs.Client.{first_program, first_lock, first_look, first_ask, most_steps, place_at, asked, still_left, RunningKnows, client_asks, client_left, ClientKnows}
 use Rattle.dht_client.specs.declared.lookup.LookupCall.TheVariants.{LookingAtHolder, Securing}
 use Rattle.dht_client.specs.declared.program.Program.{Program}
-use Rattle.dht_client.specs.declared.client.Client.{Client}
+use Rattle.dht_client.specs.declared.calling.Client.{Client}
 
 -- a call at its beginning is fresh, and in the root
 fresh_first : (c : ClientNo) (ws : List ℕ) (run : ℕ) (k : CallNo) (what : Call) (d : Gfid) (n : List ℕ) (s : Scene) → d ≡ root → Begins c ws run k what s → IsFresh (place_at d n ws) s
@@ -105,8 +106,8 @@ pub record ProgramRuns (p : Program) (s : Scene) (r : Reply) (t : Scene) : Type 
   pub knows : ProgramKnows p s
   pub moved : Moved s (program_asks p) r t
 
-pub program_runs : (c : Client) (p : Program) (r : Reply) (s t : Scene) → c.running ≡ Some p → ClientKnows c s → Moved s (client_asks c) r t → ProgramRuns p s r t
+pub program_runs : (c : Client) (p : Program) (r : Reply) (s t : Scene) → c.pending ≡ Some p → ClientKnows c s → Moved s (client_asks c) r t → ProgramRuns p s r t
 program_runs c p r s t e h mv = record { knows = subst (λ o. RunningKnows o s) e h; moved = subst (λ o. Moved s (asked o) r t) e mv }
 
-pub left_before : (c : Client) (p n : Program) → c.running ≡ Some p → program_left n < program_left p → program_left n < client_left c
+pub left_before : (c : Client) (p n : Program) → c.pending ≡ Some p → program_left n < program_left p → program_left n < client_left c
 left_before c p n e h = subst (λ o. program_left n < still_left o) (sym e) h

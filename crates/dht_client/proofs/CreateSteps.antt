@@ -3,7 +3,7 @@ use Rattle.std.proofs.Common.{◌≡◌, ◌<◌, ◌≤◌, ◌+◌, ◌*◌, �
 use Rattle.std.specs.Prelude.{Option, Some, None, is_none, unwrap_or, option_map, ◌&&◌}
 use Rattle.std.proofs.lemmas.Nat.{div-mul-add, mod-mul-add}
 use Rattle.dht_types.specs.Gfid.{made, call_of}
-use Rattle.dht_types.specs.Story.{Deeds, Tells, deeds_after}
+use Rattle.dht_types.specs.History.{Deeds, Tells, deeds_after}
 use Rattle.dht_types.specs.declared.identifiers.Gfid.{Gfid}
 use Rattle.dht_types.specs.declared.identifiers.ClientNo.{ClientNo}
 use Rattle.dht_types.specs.declared.identifiers.CallNo.{CallNo}
@@ -38,8 +38,8 @@ use Rattle.dht_hash.specs.DaviesMeyer.{dm}
 use Rattle.dht_xattr.specs.Layout.{holder}
 use Rattle.dht_types.specs.declared.identifiers.BrickNo.{BrickNo}
 use Rattle.dht_section.specs.Section.{entry_at, Truth, HoldsName, held_holder, outcome_location, OutcomeFact}
-use Rattle.dht_section.specs.declared.section.Outcome.{Outcome}
-use Rattle.dht_section.specs.declared.section.Outcome.TheVariants.{Held as Holding}
+use Rattle.dht_section.specs.declared.section.SectionOutcome.{SectionOutcome}
+use Rattle.dht_section.specs.declared.section.SectionOutcome.TheVariants.{Held as Holding}
 use Rattle.dht_section.specs.declared.section.Place.{Place}
 use Rattle.dht_section.specs.declared.section.Held.{Held}
 use Rattle.dht_client.specs.LayoutLaws.{has_holder}
@@ -67,7 +67,7 @@ makes_own : (o : Origin) (b : ℕ) (l : Location) (s : Scene) → Sound s → b 
 makes_own o b l s sound there h = record {
   call = h.call;
   there = there;
-  file = same_made o.run s.story.run o.client s.who o.call s.mine.number b (sym h.run) (sym h.client) (sym h.number);
+  file = same_made o.run s.history.run o.client s.who o.call s.mine.number b (sym h.run) (sym h.client) (sym h.number);
   numbered = call_made o.run o.client o.call b h.small (let few = sound.kept.few in omega arith) ∙ ap (λ (i : CallNo). i.0) h.number;
 }
 
@@ -85,7 +85,7 @@ held_free o h x s e new sound comes k =
       holds = w.holds;
     })
 
-pub secured_free : (o : Origin) (out : Outcome) (h : Held) (holder : Option BrickNo) (x : NewFile) (s : Scene) → out ≡ Holding h → h.found ≡ None → option_map (λ (b : BrickNo). b.0) holder ≡ held_holder h → x ≡ new_file o (unwrap_or (option_map (λ (b : BrickNo). b.0) holder) 0) → Sound s → ComesOf o (outcome_location out) s → OutcomeFact out s → IsFree x h.location s
+pub secured_free : (o : Origin) (out : SectionOutcome) (h : Held) (holder : Option BrickNo) (x : NewFile) (s : Scene) → out ≡ Holding h → h.found ≡ None → option_map (λ (b : BrickNo). b.0) holder ≡ held_holder h → x ≡ new_file o (unwrap_or (option_map (λ (b : BrickNo). b.0) holder) 0) → Sound s → ComesOf o (outcome_location out) s → OutcomeFact out s → IsFree x h.location s
 secured_free o out h holder x s e none at new sound comes k = held_free o h x s none (new ∙ ap (λ i. new_file o (unwrap_or i 0)) at) sound (rw e at comes) (rw e at k)
 
 -- the call is still the create of this origin
@@ -130,29 +130,29 @@ carried x l r s t sound z h m =
     let c : Contents = s.disk.brick x.holder.0 in
     let p : Slot = slot c.store (entry_at l) in
     let empty : p ≡ bare = bare_by p (sound.kept.settled (entry_at l) x.holder.0 there) (h.empty x.holder.0 there) in
-    let free : (is_bare p && is_none (file c.store x.file)) ≡ true = free_if p (file c.store x.file) empty (no_file s.disk x.file (s.story.tree.bytes x.file) x.holder.0 (sound.kept.stands.bytes x.file) (file_free x l s sound h) there) in
+    let free : (is_bare p && is_none (file c.store x.file)) ≡ true = free_if p (file c.store x.file) empty (no_file s.disk x.file (s.history.tree.bytes x.file) x.holder.0 (sound.kept.stands.bytes x.file) (file_free x l s sound h) there) in
     row_reply s t _ r m z
     ∙ (ap (λ o. reply_in (within (with_store c) o)) (in_dir_there (dir c.store l.directory) _ (root_there s l.directory x.holder.0 sound h.fresh.place.root there))
     ∙ ap (λ b. reply_in (within (with_store c) (on_slot (Make l.directory l.name x.file) c.store (entry_at l) (when b (with_main p (File x.file None)))))) free)
 
-made_step : (x : NewFile) (l : Location) (r : Reply) (at : ℕ) (s t : Scene) → Sound s → Sound t → is_no_memory r ≡ false → at ≡ t.story.size → IsFree x l s → Moved s (create_asks (Creating x l)) r t → Earned (record { answer = Made x.file; at = Some at }) t
+made_step : (x : NewFile) (l : Location) (r : Reply) (at : ℕ) (s t : Scene) → Sound s → Sound t → is_no_memory r ≡ false → at ≡ t.history.size → IsFree x l s → Moved s (create_asks (Creating x l)) r t → Earned (record { answer = Made x.file; at = Some at }) t
 made_step x l r at s t sound after z e h m =
     let begun = after.begun in
     let step : TreeStep = AddFile l.directory l.name x.file in
     let said = free_says x l s sound h in
-    let deeds : t.mine.deeds ≡ Some (deeds_after s.story.tree t.story.size s.mine.call None step) =
+    let deeds : t.mine.deeds ≡ Some (deeds_after s.history.tree t.history.size s.mine.call None step) =
     m.deeds
-    ∙ (ap (λ (o : Option TreeStep). deeds_by s t.story.size o) (ap (λ (y : Reply). step_of (OnNames (Make l.directory l.name x.file)) y) (carried x l r s t sound z h m))
-    ∙ ap (λ (d : Option Deeds). Some (deeds_after s.story.tree t.story.size s.mine.call d step)) h.fresh.deeds) in
+    ∙ (ap (λ (o : Option TreeStep). deeds_by s t.history.size o) (ap (λ (y : Reply). step_of (OnNames (Make l.directory l.name x.file)) y) (carried x l r s t sound z h m))
+    ∙ ap (λ (d : Option Deeds). Some (deeds_after s.history.tree t.history.size s.mine.call d step)) h.fresh.deeds) in
     record {
       point = at;
       printed = refl;
       after = omega arith;
       before = omega arith;
-      tells = subst (λ (d : Option Deeds). Tells t.story t.mine.call d at (Made x.file)) (sym deeds) (sym e, said);
+      tells = subst (λ (d : Option Deeds). Tells t.history t.mine.call d at (Made x.file)) (sym deeds) (sym e, said);
     }
 
-pub take_made : (c : CreateCall) (x : NewFile) (l : Location) (r : Reply) (at : ℕ) (s t : Scene) → c ≡ Creating x l → is_no_memory r ≡ false → Sound s → Sound t → at ≡ t.story.size → CreateKnows c s → Moved s (create_asks c) r t → HasPlace l t × Earned (record { answer = Made x.file; at = Some at }) t
+pub take_made : (c : CreateCall) (x : NewFile) (l : Location) (r : Reply) (at : ℕ) (s t : Scene) → c ≡ Creating x l → is_no_memory r ≡ false → Sound s → Sound t → at ≡ t.history.size → CreateKnows c s → Moved s (create_asks c) r t → HasPlace l t × Earned (record { answer = Made x.file; at = Some at }) t
 take_made c x l r at s t e z sound after ea h mv =
     let k : IsFree x l s = rw e at h in
     let v : Moved s (create_asks (Creating x l)) r t = rw e at mv in

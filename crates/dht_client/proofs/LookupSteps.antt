@@ -5,7 +5,7 @@ use Rattle.std.proofs.lemmas.Bool.Decides.{nat_tests}
 use Rattle.dht_types.specs.declared.calls.Call.TheVariants.{Lookup}
 use Rattle.dht_brick.specs.declared.replies.Reply.{Reply}
 use Rattle.dht_types.specs.Tree.{Tree, IsFile, Refuse, says, looked_up, answer_of}
-use Rattle.dht_types.specs.Story.{Deeds, Tells}
+use Rattle.dht_types.specs.History.{Deeds, Tells}
 use Rattle.dht_types.specs.declared.identifiers.Gfid.{Gfid}
 use Rattle.dht_types.specs.declared.errors.Errno.TheVariants.{Estale}
 use Rattle.dht_types.specs.declared.calls.Call.{Call}
@@ -110,7 +110,7 @@ says_found : (p : Tree) (d : Gfid) (n : List ℕ) (f g : Gfid) → p.dirs d ≡ 
 says_found p d n f g e k = ap (λ b. answer_of (if b then looked_up (p.names (d, n)) else Refuse Estale)) e ∙ ap (λ o. answer_of (looked_up o)) k
 
 -- the file that the holder shows is the name's
-found_step : (x : Sought) (f : Gfid) (r : Reply) (at : ℕ) (s t : Scene) → is_no_memory r ≡ false → file_shown r ≡ Some f → Sound s → Sound t → at ≡ t.story.size → Seeks x s → Moved s (lookup_asks (LookingAtHolder x)) r t → Earned (record { answer = File f; at = Some at }) t
+found_step : (x : Sought) (f : Gfid) (r : Reply) (at : ℕ) (s t : Scene) → is_no_memory r ≡ false → file_shown r ≡ Some f → Sound s → Sound t → at ≡ t.history.size → Seeks x s → Moved s (lookup_asks (LookingAtHolder x)) r t → Earned (record { answer = File f; at = Some at }) t
 found_step x f r at s t z found sound after e k m =
     let l : Location = x.location in
     let p : Place = record { brick = x.holder; file = f } in
@@ -121,7 +121,7 @@ found_step x f r at s t z found sound after e k m =
     let there_then : x.holder.0 < t.disk.count = omega arith in
     let shown : file_shown r ≡ name_at s.disk x.holder.0 (entry_at l) = look_shown l.directory l.name x.holder s t r sound k.fresh.place.root there z m in
     let here : name_at t.disk x.holder.0 (entry_at l) ≡ Some f = ap file_in (slot_moved s t _ r m tt (entry_at l) x.holder.0) ∙ (sym shown ∙ found) in
-    let node : t.story.tree.names (entry_at l) ≡ Some (IsFile f) = node_is t (entry_at l) (Some p) after (there_then, here) in
+    let node : t.history.tree.names (entry_at l) ≡ Some (IsFile f) = node_is t (entry_at l) (Some p) after (there_then, here) in
     let saw = saw_now l (Some p) at t after k.fresh.place.root e node in
     let deeds : t.mine.deeds ≡ None = deeds_quiet s t _ r tt m ∙ k.fresh.deeds in
     let call : t.mine.call ≡ Lookup l.directory l.name = m.call ∙ k.call in
@@ -130,11 +130,11 @@ found_step x f r at s t z found sound after e k m =
       printed = refl;
       after = saw.after;
       before = saw.before;
-      tells = subst (λ (o : Option Deeds). Tells t.story t.mine.call o at (File f)) (sym deeds)
-          (λ (g : Gfid). ap (λ (o : Call). answer_of (says (t.story.past at) o g)) call ∙ says_found (t.story.past at) l.directory l.name f g saw.directory saw.node);
+      tells = subst (λ (o : Option Deeds). Tells t.history t.mine.call o at (File f)) (sym deeds)
+          (λ (g : Gfid). ap (λ (o : Call). answer_of (says (t.history.past at) o g)) call ∙ says_found (t.history.past at) l.directory l.name f g saw.directory saw.node);
     }
 
-pub take_found : (c : LookupCall) (x : Sought) (f : Gfid) (r : Reply) (at : ℕ) (s t : Scene) → c ≡ LookingAtHolder x → is_no_memory r ≡ false → file_shown r ≡ Some f → Sound s → Sound t → at ≡ t.story.size → LookupKnows c s → Moved s (lookup_asks c) r t → Earned (record { answer = File f; at = Some at }) t
+pub take_found : (c : LookupCall) (x : Sought) (f : Gfid) (r : Reply) (at : ℕ) (s t : Scene) → c ≡ LookingAtHolder x → is_no_memory r ≡ false → file_shown r ≡ Some f → Sound s → Sound t → at ≡ t.history.size → LookupKnows c s → Moved s (lookup_asks c) r t → Earned (record { answer = File f; at = Some at }) t
 take_found c x f r at s t e z found sound after ea h mv = found_step x f r at s t z found sound after ea (rw e at h) (rw e at mv)
 
 -- the section's own step

@@ -12,7 +12,7 @@ use Rattle.dht_types.specs.declared.locks.Mode.TheVariants.{Shared}
 use Rattle.dht_brick.specs.declared.requests.NameRequest.TheVariants.{Look, Dirinfo}
 use Rattle.dht_brick.specs.declared.requests.Request.TheVariants.{Lock, OnNames}
 use Rattle.dht_brick.specs.declared.replies.Reply.{Reply}
-use Rattle.dht_brick.specs.declared.machines.Ask.{Ask}
+use Rattle.dht_section.specs.declared.machine.Ask.{Ask}
 use Rattle.dht_section.specs.Scene.{Scene}
 use Rattle.dht_xattr.specs.declared.range.Range.{Range}
 use Rattle.dht_client.specs.Layout.{holder_in}
@@ -22,7 +22,7 @@ use Rattle.dht_client.specs.Lookup.{first_lookup}
 use Rattle.dht_client.specs.Create.{first_create}
 use Rattle.dht_client.specs.declared.program.Program.{Program}
 use Rattle.dht_client.specs.declared.program.Program.TheVariants.{LookingUp, Creating}
-use Rattle.dht_client.specs.declared.client.Client.{Client}
+use Rattle.dht_client.specs.declared.calling.Client.{Client}
 
 abbrev pub client_number : Client → ClientNo
 client_number c = c.number
@@ -32,7 +32,7 @@ abbrev pub client_layout : Client → Option (List (Option Range))
 client_layout c = c.layout
 
 abbrev pub client_is_busy : Client → Bool
-client_is_busy c = is_some c.running
+client_is_busy c = is_some c.pending
 
 -- an idle client asks for nothing, so what stands there for it does not matter
 abbrev pub asked : Option Program → Ask
@@ -40,7 +40,7 @@ asked None = record { brick = record { 0 = 0 }; request = OnNames (Dirinfo root)
 asked (Some m) = program_asks m
 
 abbrev pub client_asks : Client → Ask
-client_asks c = asked c.running
+client_asks c = asked c.pending
 
 abbrev pub still_left : Option Program → ℕ
 still_left None = 0
@@ -48,7 +48,7 @@ still_left (Some m) = program_left m
 
 -- how many requests its call still sends at most
 abbrev pub client_left : Client → ℕ
-client_left c = still_left c.running
+client_left c = still_left c.pending
 
 abbrev pub locks_of : Option Program → List Key
 locks_of None = []
@@ -56,15 +56,15 @@ locks_of (Some m) = program_locks m
 
 -- the locks that its call asked for and has not given back, the last first
 abbrev pub client_locks : Client → List Key
-client_locks c = locks_of c.running
+client_locks c = locks_of c.pending
 
 abbrev pub is_starved : Option Program → Bool
 is_starved None = false
 is_starved (Some m) = program_starved m
 
--- its call was stopped by want of memory
+-- its call was stopped because memory ran out
 abbrev pub client_starved : Client → Bool
-client_starved c = is_starved c.running
+client_starved c = is_starved c.pending
 
 abbrev pub taught_by : Option Program → Reply → Option (List (Option Range))
 taught_by None r = None
@@ -72,14 +72,14 @@ taught_by (Some m) r = program_taught m r
 
 -- the layout that its call has read by this reply, if every brick has shown its range now
 abbrev pub client_taught : Client → Reply → Option (List (Option Range))
-client_taught c r = taught_by c.running r
+client_taught c r = taught_by c.pending r
 
 abbrev pub RunningKnows : Option Program → Scene → Type 0
 RunningKnows None s = Unit {0}
 RunningKnows (Some m) s = ProgramKnows m s
 
 abbrev pub ClientKnows : Client → Scene → Type 0
-ClientKnows c s = RunningKnows c.running s
+ClientKnows c s = RunningKnows c.pending s
 
 -- the name of a call
 abbrev pub place_at : Gfid → List ℕ → List ℕ → Location

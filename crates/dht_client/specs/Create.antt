@@ -6,7 +6,7 @@ use Rattle.dht_types.specs.declared.locks.Key.{Key}
 use Rattle.dht_brick.specs.declared.requests.NameRequest.TheVariants.{Create as Make}
 use Rattle.dht_brick.specs.declared.requests.Request.TheVariants.{OnNames}
 use Rattle.dht_brick.specs.declared.replies.Reply.{Reply}
-use Rattle.dht_brick.specs.declared.machines.Ask.{Ask}
+use Rattle.dht_section.specs.declared.machine.Ask.{Ask}
 use Rattle.dht_xattr.specs.declared.range.Range.{Range}
 use Rattle.dht_section.specs.Scene.{Scene, name_at, holder_of}
 use Rattle.dht_section.specs.Section.{entry_at, IsFresh, Locked, section_asks, section_location, section_left, section_locks, both_locks, section_taught, SectionKnows}
@@ -43,7 +43,7 @@ create_locks (Securing o m) = section_locks m
 create_locks (Creating x l) = both_locks l
 create_locks (Ending c) = closing_locks c
 
--- it was stopped by want of memory
+-- it was stopped because memory ran out
 abbrev pub create_starved : CreateCall → Bool
 create_starved (Securing o m) = false
 create_starved (Creating x l) = false
@@ -59,7 +59,7 @@ new_file o b = record { file = made o.run o.client o.call b; holder = record { 0
 -- the scene's call is the create of this name, and of this origin
 pub record ComesOf (o : Origin) (l : Location) (s : Scene) : Type 0 where
   pub call : s.mine.call ≡ Create l.directory l.name
-  pub run : o.run ≡ s.story.run
+  pub run : o.run ≡ s.history.run
   pub client : o.client ≡ s.who
   pub number : o.call ≡ s.mine.number
   pub small : o.call.0 < 2 ^ 64
@@ -72,7 +72,7 @@ pub record SecuresCreate (o : Origin) (m : Section) (s : Scene) : Type 0 where
 pub record Makes (x : NewFile) (l : Location) (s : Scene) : Type 0 where
   pub call : s.mine.call ≡ Create l.directory l.name
   pub there : x.holder.0 < s.disk.count
-  pub file : x.file ≡ made s.story.run s.who s.mine.number x.holder.0
+  pub file : x.file ≡ made s.history.run s.who s.mine.number x.holder.0
   pub numbered : call_of x.file ≡ s.mine.number.0
 
 -- both locks are held, no brick has the name, and the file goes to the name's holder

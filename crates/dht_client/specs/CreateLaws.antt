@@ -3,7 +3,7 @@ use Rattle.std.proofs.Common.{◌≡◌, ℕ, List, [], ◌∷◌, sym, ◌∙�
 use Rattle.std.specs.Prelude.{Option, None, if◌then◌else◌}
 use Rattle.dht_types.specs.Gfid.{made}
 use Rattle.dht_types.specs.Tree.{Tree, Do, Refuse, says, created}
-use Rattle.dht_types.specs.Story.{Running, Deeds, IsNext}
+use Rattle.dht_types.specs.History.{PendingCall, Deeds, IsNext}
 use Rattle.dht_types.specs.declared.identifiers.Gfid.{Gfid}
 use Rattle.dht_types.specs.declared.identifiers.ClientNo.{ClientNo}
 use Rattle.dht_types.specs.declared.errors.Errno.TheVariants.{Estale}
@@ -30,18 +30,18 @@ use Rattle.dht_client.specs.declared.create.CreateCall.TheVariants.{Securing, Cr
 pub says_create : (t : Tree) (d : Gfid) (n : List ℕ) (g : Gfid) → t.dirs d ≡ true → t.names (d, n) ≡ None → says t (Create d n) g ≡ Do (AddFile d n g ∷ []) (Made g)
 says_create t d n g e k = ap (λ b. if b then created d n g (t.names (d, n)) else Refuse Estale) e ∙ ap (λ o. created d n g o) k
 
-pub free_says : (x : NewFile) (l : Location) (s : Scene) → Sound s → IsFree x l s → says s.story.tree s.mine.call x.file ≡ Do (AddFile l.directory l.name x.file ∷ []) (Made x.file)
+pub free_says : (x : NewFile) (l : Location) (s : Scene) → Sound s → IsFree x l s → says s.history.tree s.mine.call x.file ≡ Do (AddFile l.directory l.name x.file ∷ []) (Made x.file)
 free_says x l s sound h =
-    ap (λ (c : Call). says s.story.tree c x.file) h.makes.call
-    ∙ says_create s.story.tree l.directory l.name x.file (root_in_tree s l.directory sound h.fresh.place.root) (node_is s (entry_at l) None sound h.empty)
+    ap (λ (c : Call). says s.history.tree c x.file) h.makes.call
+    ∙ says_create s.history.tree l.directory l.name x.file (root_in_tree s l.directory sound h.fresh.place.root) (node_is s (entry_at l) None sound h.empty)
 
 -- no file has the new gfid
-pub file_free : (x : NewFile) (l : Location) (s : Scene) → Sound s → IsFree x l s → s.story.tree.bytes x.file ≡ None
+pub file_free : (x : NewFile) (l : Location) (s : Scene) → Sound s → IsFree x l s → s.history.tree.bytes x.file ≡ None
 file_free x l s sound h = sound.kept.fresh s.who.0 s.mine sound.runs h.fresh.deeds x.file h.makes.numbered
 
 wants_file : (x : NewFile) (l : Location) (s : Scene) → Sound s → IsFree x l s → Wants s (AddFile l.directory l.name x.file)
 wants_file x l s sound h = record {
-  next = subst (λ (d : Option Deeds). IsNext s.story.tree s.mine.call d (AddFile l.directory l.name x.file)) (sym h.fresh.deeds) ([], (Made x.file, free_says x l s sound h));
+  next = subst (λ (d : Option Deeds). IsNext s.history.tree s.mine.call d (AddFile l.directory l.name x.file)) (sym h.fresh.deeds) ([], (Made x.file, free_says x l s sound h));
   fits = (root_in_tree s l.directory sound h.fresh.place.root, node_is s (entry_at l) None sound h.empty, file_free x l s sound h);
   own = (x.holder.0, let w = h.makes.there in let few = sound.kept.few in omega arith, h.makes.file);
 }
@@ -53,19 +53,19 @@ create_permitted (Ending c) s sound h = closing_permitted c s sound h
 
 comes_stable : (x : Origin) (l : Location) (s t : Scene) → ComesOf x l s → Others s t → ComesOf x l t
 comes_stable x l s t h o = record {
-  call = ap (λ (r : Running). r.call) o.mine ∙ h.call;
+  call = ap (λ (r : PendingCall). r.call) o.mine ∙ h.call;
   run = h.run ∙ sym o.run;
   client = h.client ∙ sym o.who;
-  number = h.number ∙ ap (λ (r : Running). r.number) (sym o.mine);
+  number = h.number ∙ ap (λ (r : PendingCall). r.number) (sym o.mine);
   small = h.small;
 }
 
 makes_stable : (x : NewFile) (l : Location) (s t : Scene) → Makes x l s → Others s t → Makes x l t
 makes_stable x l s t h o = record {
-  call = ap (λ (r : Running). r.call) o.mine ∙ h.call;
+  call = ap (λ (r : PendingCall). r.call) o.mine ∙ h.call;
   there = let w = h.there in let c = o.count in omega arith;
-  file = h.file ∙ (ap (λ (n : ℕ). made n s.who s.mine.number x.holder.0) (sym o.run) ∙ (ap (λ (c : ClientNo). made t.story.run c s.mine.number x.holder.0) (sym o.who) ∙ ap (λ (r : Running). made t.story.run t.who r.number x.holder.0) (sym o.mine)));
-  numbered = h.numbered ∙ ap (λ (r : Running). r.number.0) (sym o.mine);
+  file = h.file ∙ (ap (λ (n : ℕ). made n s.who s.mine.number x.holder.0) (sym o.run) ∙ (ap (λ (c : ClientNo). made t.history.run c s.mine.number x.holder.0) (sym o.who) ∙ ap (λ (r : PendingCall). made t.history.run t.who r.number x.holder.0) (sym o.mine)));
+  numbered = h.numbered ∙ ap (λ (r : PendingCall). r.number.0) (sym o.mine);
 }
 
 free_stable : (x : NewFile) (l : Location) (s t : Scene) → IsFree x l s → Others s t → IsFree x l t

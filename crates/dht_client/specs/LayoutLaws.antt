@@ -4,9 +4,9 @@ use Rattle.std.specs.Prelude.{Some}
 use Rattle.dht_types.specs.Gfid.{Entry, root}
 use Rattle.dht_types.specs.declared.identifiers.Gfid.{Gfid}
 use Rattle.dht_hash.specs.DaviesMeyer.{dm}
-use Rattle.dht_hash.specs.DaviesMeyerLaws.{dm_below}
+use Rattle.dht_hash.proofs.DaviesMeyerLaws.{dm_below}
 use Rattle.dht_xattr.specs.Layout.{holder}
-use Rattle.dht_xattr.specs.PlanLaws.{planned_holder}
+use Rattle.dht_xattr.proofs.PlanLaws.{planned_holder}
 use Rattle.dht_section.specs.Scene.{Scene, Sound, layout_of, holder_of}
 
 -- a name of the root has a holder, which is a brick of the volume
@@ -17,7 +17,7 @@ pub record HasHolder (s : Scene) (e : Entry) : Type 0 where
 
 pub has_holder : (s : Scene) (d : Gfid) (n : List ℕ) → Sound s → d ≡ root → HasHolder s (d, n)
 has_holder s d n sound e =
-    let w = planned_holder s.story.weights root (dm n) sound.kept.heavy (dm_below n) in
+    let w = planned_holder s.history.weights root (dm n) sound.kept.heavy (dm_below n) in
     let counted = sound.kept.counted in
     let l = w.1 in
     record {

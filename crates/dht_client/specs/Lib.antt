@@ -1,5 +1,6 @@
 pub mod Layout
 pub mod LayoutLaws
+pub mod Found
 pub mod Memory
 pub mod Lookup
 pub mod LookupLaws

@@ -9,7 +9,7 @@ use Rattle.dht_types.specs.declared.locks.Key.{Key}
 use Rattle.dht_brick.specs.declared.requests.NameRequest.TheVariants.{Look, Dirinfo}
 use Rattle.dht_brick.specs.declared.requests.Request.TheVariants.{OnNames}
 use Rattle.dht_brick.specs.declared.replies.Reply.{Reply}
-use Rattle.dht_brick.specs.declared.machines.Ask.{Ask}
+use Rattle.dht_section.specs.declared.machine.Ask.{Ask}
 use Rattle.dht_xattr.specs.declared.range.Range.{Range}
 use Rattle.dht_section.specs.Replies.{is_no_memory, range_shown}
 use Rattle.dht_section.specs.Scene.{Scene}
@@ -57,7 +57,7 @@ lookup_locks (LookingAtHolder x) = []
 lookup_locks (Securing m) = section_locks m
 lookup_locks (Ending c) = closing_locks c
 
--- it was stopped by want of memory
+-- it was stopped because memory ran out
 abbrev pub lookup_starved : LookupCall → Bool
 lookup_starved (Surveying l b ranges) = false
 lookup_starved (LookingAtHolder x) = false

@@ -1,6 +1,6 @@
 -- The laws of a lookup as a machine.
 use Rattle.std.proofs.Common.{◌<◌, ◌∙◌, ap, arith}
-use Rattle.dht_types.specs.Story.{Running}
+use Rattle.dht_types.specs.History.{PendingCall}
 use Rattle.dht_section.specs.Scene.{Scene, Sound, Permitted, Others}
 use Rattle.dht_section.specs.SectionLaws.{bricks_are, section_permitted, section_stable, fresh_stable}
 use Rattle.dht_section.specs.ClosingLaws.{closing_permitted, closing_stable}
@@ -28,13 +28,13 @@ lookup_permitted (Ending c) s sound h = closing_permitted c s sound h
 
 seeks_stable : (x : Sought) (s t : Scene) → Seeks x s → Others s t → Seeks x t
 seeks_stable x s t h o = record {
-  call = ap (λ (r : Running). r.call) o.mine ∙ h.call;
+  call = ap (λ (r : PendingCall). r.call) o.mine ∙ h.call;
   within = h.within;
   fresh = fresh_stable x.location s t h.fresh o;
 }
 
 pub lookup_stable : (m : LookupCall) (s t : Scene) → LookupKnows m s → Others s t → LookupKnows m t
-lookup_stable (Surveying l b ranges) s t h o = record { call = ap (λ (r : Running). r.call) o.mine ∙ h.call; fresh = fresh_stable l s t h.fresh o; within = h.within }
+lookup_stable (Surveying l b ranges) s t h o = record { call = ap (λ (r : PendingCall). r.call) o.mine ∙ h.call; fresh = fresh_stable l s t h.fresh o; within = h.within }
 lookup_stable (LookingAtHolder x) s t h o = seeks_stable x s t h o
-lookup_stable (Securing m) s t h o = record { call = ap (λ (r : Running). r.call) o.mine ∙ h.call; section = section_stable m s t h.section o }
+lookup_stable (Securing m) s t h o = record { call = ap (λ (r : PendingCall). r.call) o.mine ∙ h.call; section = section_stable m s t h.section o }
 lookup_stable (Ending c) s t h o = closing_stable c s t h o

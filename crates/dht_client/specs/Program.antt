@@ -2,7 +2,7 @@
 use Rattle.std.specs.Prelude.{ℕ, Bool, Option, List}
 use Rattle.dht_types.specs.declared.locks.Key.{Key}
 use Rattle.dht_brick.specs.declared.replies.Reply.{Reply}
-use Rattle.dht_brick.specs.declared.machines.Ask.{Ask}
+use Rattle.dht_section.specs.declared.machine.Ask.{Ask}
 use Rattle.dht_xattr.specs.declared.range.Range.{Range}
 use Rattle.dht_section.specs.Scene.{Scene}
 use Rattle.dht_client.specs.Lookup.{lookup_asks, lookup_left, lookup_taught, lookup_locks, lookup_starved, LookupKnows}

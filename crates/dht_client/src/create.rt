@@ -1,28 +1,27 @@
 //! Create: under the locks of its name, a call that makes a file where no brick has one.
 
 ghost use Rattle.std.specs.Prelude.{◌≡◌, ◌<◌, ◌≤◌, ◌||◌, ℕ, false, [], None, option_map, unwrap_or};
-ghost use Rattle.dht_section.specs.Scene.{Scene, Sound, Moved, Earned};
-ghost use Rattle.dht_section.specs.Turns.{MatchTurn};
-ghost use Rattle.dht_section.specs.Section.{LocksBy, OutcomeFact, outcome_location, outcome_locks, is_stopped};
+ghost use Rattle.dht_section.specs.Scene.{Scene, Sound, Earned};
+ghost use Rattle.dht_section.specs.Turns.{Moves};
+ghost use Rattle.dht_section.specs.Section.{LocksFollow, OutcomeFact, outcome_location, outcome_locks, is_stopped};
 ghost use Rattle.dht_section.specs.Closing.{ClosingKnows, closing_finish, closing_locks};
-ghost use Rattle.dht_client.specs.Memory.{is_enomem, starves};
+ghost use Rattle.dht_client.specs.Memory.{NotesMemory};
 ghost use Rattle.dht_client.specs.Create.{ComesOf, create_asks, create_left, create_locks, create_starved, create_taught, first_create, new_file, CreateKnows};
 ghost use Rattle.dht_client.specs.CreateLaws.{create_permitted, create_stable};
 
-use dht_brick::machines::{Ask, Finish, Turn};
 use dht_brick::replies::Reply;
 use dht_brick::requests::{NameRequest, Request};
-use dht_section::closing::{Closing, want_of_memory};
-use dht_section::machine::Machine;
+use dht_section::closing::{Closing, out_of_memory};
+use dht_section::machine::{Ask, Finish, Machine, Turn};
 use dht_section::replies::is_no_memory;
-use dht_section::section::{Location, Outcome, Section};
+use dht_section::section::{Location, Section, SectionOutcome};
 use dht_types::calls::Answer;
 use dht_types::errors::Errno;
 use dht_types::identifiers::{BrickNo, CallNo, ClientNo, Gfid};
 use dht_xattr::layout::Layout;
 
 /// Where a gfid comes from: the call that makes it, of which client and in which run.
-#[derive(Clone, Copy, Debug)]
+#[derive(Clone, Copy)]
 pub struct Origin {
     pub run: u32,
     pub client: ClientNo,
@@ -30,14 +29,14 @@ pub struct Origin {
 }
 
 /// The file that a create makes, and the brick to which it goes.
-#[derive(Clone, Copy, Debug)]
+#[derive(Clone, Copy)]
 pub struct NewFile {
     pub file: Gfid,
     pub holder: BrickNo,
 }
 
 /// A create. Each stage is one request, or those of a part that is a program of its own.
-#[derive(Debug, Drop)]
+#[derive(Drop)]
 pub enum CreateCall {
     /// Nothing is known of the name.
     Securing(Origin, Section),
@@ -63,14 +62,15 @@ impl Origin {
 }
 
 /// How a create goes on after its section.
-fn secured(origin: Origin, outcome: Outcome) -> CreateCall
-    ensures knows { (s : Scene) → Sound s → ComesOf origin (outcome_location outcome) s → OutcomeFact outcome s → CreateKnows result s }
+fn secured(origin: Origin, outcome: SectionOutcome) -> CreateCall
+    ensures knows { (s : Scene) → Sound s → ComesOf origin (outcome_location outcome) s
+        → OutcomeFact outcome s → CreateKnows result s }
     ensures left { create_left result ≤ 3 }
     ensures locks { create_locks result ≡ outcome_locks outcome }
     ensures memory { create_starved result ≡ is_stopped outcome }
 {
     match outcome {
-        Outcome::Held(held) => match held.found {
+        SectionOutcome::Held(held) => match held.found {
             Some(_) => CreateCall::Ending(Closing::new(
                 held.location,
                 Finish {
@@ -80,7 +80,7 @@ fn secured(origin: Origin, outcome: Outcome) -> CreateCall
             )),
             None => CreateCall::Creating(origin.new_file(held.holder()), held.location),
         },
-        Outcome::Stopped(stopped) => CreateCall::Ending(Closing::of_stopped(stopped)),
+        SectionOutcome::Stopped(stopped) => CreateCall::Ending(Closing::of_stopped(stopped)),
     }
 }
 
@@ -131,11 +131,10 @@ impl Machine for CreateCall {
     }
 
     fn take(self, reply: Reply, at: u64) -> Turn<CreateCall, Finish>
-        ensures moves { (s t : Scene) → Sound s → Sound t → CreateKnows self s → Moved s (create_asks self) reply t → at ≡ t.story.size
-            → MatchTurn result (λ m. CreateKnows m t × (create_left m < create_left self)) (λ d. Earned d t) }
-        ensures locks { MatchTurn result (λ m. LocksBy (create_asks self).request (create_locks self) (create_locks m)) (λ d. LocksBy (create_asks self).request (create_locks self) []) }
-        // it answers Enomem exactly by want of memory
-        ensures memory { MatchTurn result (λ m. create_starved m ≡ (create_starved self || starves (create_asks self).request reply)) (λ d. is_enomem d.answer ≡ (create_starved self || starves (create_asks self).request reply)) }
+        ensures moves { Moves create_asks CreateKnows create_left Earned self reply at result }
+        ensures locks { LocksFollow create_locks (λ f. []) self
+            (create_asks self).request result }
+        ensures memory { NotesMemory create_starved self (create_asks self).request reply result }
     {
         match self {
             CreateCall::Securing(origin, section) => match section.take(reply, at) {
@@ -144,7 +143,7 @@ impl Machine for CreateCall {
             },
             CreateCall::Creating(new, location) => {
                 if is_no_memory(&reply) {
-                    Turn::Go(CreateCall::Ending(Closing::new(location, want_of_memory())))
+                    Turn::Go(CreateCall::Ending(Closing::new(location, out_of_memory())))
                 } else {
                     let finish = Finish {
                         answer: Answer::Made(new.file),

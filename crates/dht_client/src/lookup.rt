@@ -2,38 +2,40 @@
 //! locks.
 
 ghost use Rattle.std.specs.Prelude.{◌≡◌, ◌<◌, ◌||◌, ℕ, false, [], length, None};
-ghost use Rattle.dht_brick.specs.declared.machines.Ask.{Ask};
-ghost use Rattle.dht_section.specs.Scene.{Scene, Sound, Moved, Earned};
-ghost use Rattle.dht_section.specs.Turns.{MatchTurn};
-ghost use Rattle.dht_section.specs.Section.{LocksBy, OutcomeFact, outcome_location, outcome_locks, is_stopped};
+ghost use Rattle.dht_section.specs.declared.machine.Ask.{Ask};
+ghost use Rattle.dht_section.specs.Scene.{Scene, Earned};
+ghost use Rattle.dht_section.specs.Turns.{Moves};
+ghost use Rattle.dht_section.specs.Section.{LocksFollow, OutcomeFact, outcome_location, outcome_locks, is_stopped};
 ghost use Rattle.dht_section.specs.Closing.{ClosingKnows, closing_finish, closing_locks};
-ghost use Rattle.dht_client.specs.Memory.{is_enomem, starves};
+ghost use Rattle.dht_types.specs.declared.identifiers.Gfid.{Gfid as AGfid};
+ghost use Rattle.dht_section.specs.declared.machine.Turn.TheVariants as turn;
+ghost use Rattle.dht_client.specs.Found.{ShowsFile, found_at};
+ghost use Rattle.dht_client.specs.Memory.{is_enomem, NotesMemory};
 ghost use Rattle.dht_section.specs.Section.{HasPlace};
 ghost use Rattle.dht_client.specs.Lookup.{IsLookup, Seeks, aimed, first_lookup, found_answer, lookup_asks, lookup_left, lookup_locks, lookup_starved, lookup_taught, surveyed, LookupKnows};
 ghost use Rattle.dht_client.specs.LookupLaws.{lookup_permitted, lookup_stable};
 
 use super::layout::holder_in;
-use dht_brick::machines::{Ask, Finish, Turn};
 use dht_brick::replies::Reply;
 use dht_brick::requests::{NameRequest, Request};
-use dht_section::closing::{Closing, want_of_memory};
-use dht_section::machine::Machine;
+use dht_section::closing::{Closing, out_of_memory};
+use dht_section::machine::{Ask, Finish, Machine, Turn};
 use dht_section::replies::{file_shown, is_no_memory, range_shown};
-use dht_section::section::{Location, Outcome, Place, Section, lengthen};
+use dht_section::section::{Location, Place, Section, SectionOutcome, lengthen};
 use dht_types::calls::Answer;
 use dht_types::errors::Errno;
 use dht_types::identifiers::BrickNo;
 use dht_xattr::layout::Layout;
 
 /// The name that is looked up, and its holder.
-#[derive(Clone, Copy, Debug)]
+#[derive(Clone, Copy)]
 pub struct Sought {
     pub location: Location,
     pub holder: BrickNo,
 }
 
 /// A lookup. Each stage is one request, or those of a part that is a program of its own.
-#[derive(Debug, Drop)]
+#[derive(Drop)]
 pub enum LookupCall {
     /// The layout is not known: the directory's record is asked of every brick, of this one next. The
     /// bricks below it have these ranges.
@@ -57,20 +59,21 @@ fn answer_of(found: Option<Place>) -> Answer
 }
 
 /// How a lookup ends after its section.
-fn end(outcome: Outcome) -> Closing
-    ensures knows { (s : Scene) → IsLookup (outcome_location outcome) s → OutcomeFact outcome s → ClosingKnows result s }
+fn end(outcome: SectionOutcome) -> Closing
+    ensures knows { (s : Scene) → IsLookup (outcome_location outcome) s → OutcomeFact outcome s
+        → ClosingKnows result s }
     ensures locks { closing_locks result ≡ outcome_locks outcome }
     ensures memory { is_enomem (closing_finish result).answer ≡ is_stopped outcome }
 {
     match outcome {
-        Outcome::Held(held) => Closing::new(
+        SectionOutcome::Held(held) => Closing::new(
             held.location,
             Finish {
                 answer: answer_of(held.found),
                 at: Some(held.at),
             },
         ),
-        Outcome::Stopped(stopped) => Closing::of_stopped(stopped),
+        SectionOutcome::Stopped(stopped) => Closing::of_stopped(stopped),
     }
 }
 
@@ -158,16 +161,19 @@ impl Machine for LookupCall {
     }
 
     fn take(self, reply: Reply, at: u64) -> Turn<LookupCall, Finish>
-        ensures moves { (s t : Scene) → Sound s → Sound t → LookupKnows self s → Moved s (lookup_asks self) reply t → at ≡ t.story.size
-            → MatchTurn result (λ m. LookupKnows m t × (lookup_left m < lookup_left self)) (λ d. Earned d t) }
-        ensures locks { MatchTurn result (λ m. LocksBy (lookup_asks self).request (lookup_locks self) (lookup_locks m)) (λ d. LocksBy (lookup_asks self).request (lookup_locks self) []) }
-        // it answers Enomem exactly by want of memory
-        ensures memory { MatchTurn result (λ m. lookup_starved m ≡ (lookup_starved self || starves (lookup_asks self).request reply)) (λ d. is_enomem d.answer ≡ (lookup_starved self || starves (lookup_asks self).request reply)) }
+        ensures moves { Moves lookup_asks LookupKnows lookup_left Earned self reply at result }
+        ensures locks { LocksFollow lookup_locks (λ f. []) self
+            (lookup_asks self).request result }
+        ensures memory { NotesMemory lookup_starved self (lookup_asks self).request reply result }
+        // a file that the name's holder shows is answered at once
+        ensures found { (f : AGfid)
+            → ShowsFile (lookup_asks self).request (lookup_locks self) reply f
+            → result ≡ turn.Done (found_at f at) }
     {
         match self {
             LookupCall::Surveying(location, brick, layout) => {
                 if is_no_memory(&reply) {
-                    Turn::Done(want_of_memory())
+                    Turn::Done(out_of_memory())
                 } else {
                     let layout = lengthen(layout, range_shown(&reply));
                     Turn::Go(survey_on(location, brick, &layout))
@@ -175,7 +181,7 @@ impl Machine for LookupCall {
             }
             LookupCall::LookingAtHolder(sought) => {
                 if is_no_memory(&reply) {
-                    Turn::Done(want_of_memory())
+                    Turn::Done(out_of_memory())
                 } else {
                     match file_shown(&reply) {
                         Some(file) => Turn::Done(Finish {

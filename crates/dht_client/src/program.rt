@@ -1,22 +1,24 @@
 //! The program of a call, whichever it is.
 
 ghost use Rattle.std.specs.Prelude.{◌≡◌, ◌<◌, ◌||◌, ℕ, [], None};
-ghost use Rattle.dht_section.specs.Scene.{Scene, Sound, Moved, Earned};
-ghost use Rattle.dht_section.specs.Turns.{MatchTurn};
-ghost use Rattle.dht_section.specs.Section.{LocksBy};
-ghost use Rattle.dht_client.specs.Memory.{is_enomem, starves};
+ghost use Rattle.dht_section.specs.Scene.{Scene, Earned};
+ghost use Rattle.dht_section.specs.Turns.{Moves};
+ghost use Rattle.dht_section.specs.Section.{LocksFollow};
+ghost use Rattle.dht_types.specs.declared.identifiers.Gfid.{Gfid as AGfid};
+ghost use Rattle.dht_section.specs.declared.machine.Turn.TheVariants as turn;
+ghost use Rattle.dht_client.specs.Found.{ShowsFile, found_at};
+ghost use Rattle.dht_client.specs.Memory.{NotesMemory};
 ghost use Rattle.dht_client.specs.Program.{program_asks, program_left, program_locks, program_starved, program_taught, ProgramKnows};
 ghost use Rattle.dht_client.specs.ProgramLaws.{program_permitted, program_stable};
 
 use super::create::CreateCall;
 use super::lookup::LookupCall;
-use dht_brick::machines::{Ask, Finish, Turn};
 use dht_brick::replies::Reply;
-use dht_section::machine::Machine;
+use dht_section::machine::{Ask, Finish, Machine, Turn};
 use dht_xattr::layout::Layout;
 
 /// The program of a call.
-#[derive(Debug, Drop)]
+#[derive(Drop)]
 pub enum Program {
     LookingUp(LookupCall),
     Creating(CreateCall),
@@ -56,10 +58,14 @@ impl Machine for Program {
 
     #[tactic(auto, unfolding(crate::specs::Program::program_asks, crate::specs::Program::program_left, crate::specs::Program::program_locks, crate::specs::Program::program_starved, crate::specs::Program::ProgramKnows))]
     fn take(self, reply: Reply, at: u64) -> Turn<Program, Finish>
-        ensures moves { (s t : Scene) → Sound s → Sound t → ProgramKnows self s → Moved s (program_asks self) reply t → at ≡ t.story.size
-            → MatchTurn result (λ m. ProgramKnows m t × (program_left m < program_left self)) (λ d. Earned d t) }
-        ensures locks { MatchTurn result (λ m. LocksBy (program_asks self).request (program_locks self) (program_locks m)) (λ d. LocksBy (program_asks self).request (program_locks self) []) }
-        ensures memory { MatchTurn result (λ m. program_starved m ≡ (program_starved self || starves (program_asks self).request reply)) (λ d. is_enomem d.answer ≡ (program_starved self || starves (program_asks self).request reply)) }
+        ensures moves { Moves program_asks ProgramKnows program_left Earned self reply at result }
+        ensures locks { LocksFollow program_locks (λ f. []) self
+            (program_asks self).request result }
+        ensures memory { NotesMemory program_starved self (program_asks self).request reply result }
+        // a file that the name's holder shows is answered at once
+        ensures found { (f : AGfid)
+            → ShowsFile (program_asks self).request (program_locks self) reply f
+            → result ≡ turn.Done (found_at f at) }
     {
         match self {
             Program::LookingUp(call) => match call.take(reply, at) {

@@ -1,5 +1,4 @@
 mod InPlaceLemmas
-mod OneNameLemmas
 mod PageLemmas
 mod RecordLemmas
 mod ServeLemmas

@@ -1,4 +1,3 @@
 pub mod Headers
-pub mod OneName
 pub mod Records
 pub mod Served

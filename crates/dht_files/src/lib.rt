@@ -13,6 +13,3 @@ mod shown;
 mod writes;
 
 pub use records::Files;
-
-#[cfg(test)]
-mod tests;

@@ -6,7 +6,7 @@ ghost use Rattle.dht_guard.specs.Cells.{cell_at};
 use crate::records::State;
 
 /// What a request may do to a record that is in one state.
-#[derive(Clone, Copy, Debug, PartialEq, Eq)]
+#[derive(Clone, Copy, PartialEq, Eq)]
 pub enum Cell {
     /// The request is refused, and the record stays as it is.
     Refuse,
@@ -33,27 +33,5 @@ impl<const R: usize, const S: usize> Matrix<R, S> {
         ensures { result ≡ cell_at self.now.rows row state }
     {
         self.rows[row][state]
-    }
-}
-
-#[cfg(test)]
-mod tests {
-    use super::*;
-
-    #[test]
-    fn is_read_by_row_and_then_by_state(rt: HostRuntime) {
-        let matrix = Matrix {
-            rows: [
-                [Cell::Refuse, Cell::Keep, Cell::To(State::Live)],
-                [
-                    Cell::To(State::Moving),
-                    Cell::Test(State::Absent),
-                    Cell::Test(State::Forward),
-                ],
-            ],
-        };
-        assert_eq!(rt; matrix.cell(0, 2), Cell::To(State::Live));
-        assert_eq!(rt; matrix.cell(1, 0), Cell::To(State::Moving));
-        assert_eq!(rt; matrix.cell(1, 2), Cell::Test(State::Forward));
     }
 }

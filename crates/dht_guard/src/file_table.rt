@@ -44,7 +44,7 @@ macro_rules! row {
 }
 
 /// The requests on a file's record. As numbers, from 0, they are the rows of [`FILE_TABLE`].
-#[derive(Clone, Copy, Debug, PartialEq, Eq)]
+#[derive(Clone, Copy, PartialEq, Eq)]
 pub enum FileRow {
     /// Reads bytes of the file.
     Read,
@@ -117,90 +117,8 @@ pub fn file_cell(row: FileRow, state: State) -> Cell
 pub fn file_table_facts()
     ensures free_write_refuses_moving { file_cell_of FileRow.Write State.Moving ≡ Cell.Refuse }
     ensures free_truncate_refuses_moving { file_cell_of FileRow.Truncate State.Moving ≡ Cell.Refuse }
-    ensures only_demote_leads_from_moving_to_forward { (row : FileRow) → LeadsTo (file_cell_of row State.Moving) State.Forward ↔ (row ≡ FileRow.Demote) }
-    ensures standby_refuses_all_but_six { (row : FileRow) → (file_cell_of row State.Standby ≢ Cell.Refuse) ↔ IsForStandby row }
+    ensures only_demote_leads_from_moving_to_forward { (row : FileRow)
+        → LeadsTo (file_cell_of row State.Moving) State.Forward ↔ (row ≡ FileRow.Demote) }
+    ensures standby_refuses_all_but_six { (row : FileRow)
+        → (file_cell_of row State.Standby ≢ Cell.Refuse) ↔ IsForStandby row }
 {}
-
-#[cfg(test)]
-mod tests {
-    use super::*;
-    use std::alloc::{AllocError, Global};
-    use std::test::Fail;
-
-    const STATES: [State; 5] = [
-        State::Absent,
-        State::Live,
-        State::Moving,
-        State::Standby,
-        State::Forward,
-    ];
-
-    const ROWS: [FileRow; 16] = [
-        FileRow::Read,
-        FileRow::Write,
-        FileRow::LockedWrite,
-        FileRow::Truncate,
-        FileRow::LockedTruncate,
-        FileRow::Stat,
-        FileRow::Mark,
-        FileRow::Unmark,
-        FileRow::MakeStandby,
-        FileRow::StandbyWrite,
-        FileRow::CopyWrite,
-        FileRow::ClearDirty,
-        FileRow::DropStandby,
-        FileRow::Demote,
-        FileRow::Promote,
-        FileRow::Drop,
-    ];
-
-    /// The table, drawn: `-` refuses, `=` keeps, `>` leads to a state, and `?` does so by a test.
-    const DRAWING: &str = "
-                        Absent    Live      Moving    Standby   Forward
-        Read            -         =         =         -         -
-        Write           -         >Live     -         -         -
-        LockedWrite     -         >Live     >Moving   -         -
-        Truncate        -         >Live     -         -         -
-        LockedTruncate  -         >Live     >Moving   -         -
-        Stat            -         =         =         -         -
-        Mark            -         ?Moving   -         -         -
-        Unmark          -         -         >Live     -         -
-        MakeStandby     ?Standby  -         -         ?Standby  ?Standby
-        StandbyWrite    -         -         -         ?Standby  -
-        CopyWrite       -         -         -         ?Standby  -
-        ClearDirty      -         -         -         >Standby  -
-        DropStandby     -         -         -         >Forward  -
-        Demote          -         -         ?Forward  -         -
-        Promote         -         -         -         ?Live     -
-        Drop            -         ?Absent   -         -         -
-    ";
-
-    fn drawn(alloc: Global, cell: Cell) -> Result<String, AllocError> {
-        match cell {
-            Cell::Refuse => format!(in alloc; "-"),
-            Cell::Keep => format!(in alloc; "="),
-            Cell::To(state) => format!(in alloc; ">{state:?}"),
-            Cell::Test(state) => format!(in alloc; "?{state:?}"),
-        }
-    }
-
-    #[test]
-    fn is_as_drawn(rt: HostRuntime) -> Result<(), Fail> {
-        let mut words = DRAWING.split_whitespace();
-        for state in STATES {
-            let name = format!(in rt.alloc(); "{state:?}")?;
-            assert_eq!(rt; words.next(), Some(name.as_str()));
-        }
-        for row in ROWS {
-            let name = format!(in rt.alloc(); "{row:?}")?;
-            assert_eq!(rt; words.next(), Some(name.as_str()));
-            for state in STATES {
-                let cell = drawn(rt.alloc(), file_cell(row, state))?;
-                assert_eq!(rt; words.next(), Some(cell.as_str()), "{row:?} in {state:?}");
-            }
-        }
-        assert_eq!(rt; words.next(), None);
-        file_table_facts();
-        Ok(())
-    }
-}

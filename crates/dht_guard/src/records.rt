@@ -1,7 +1,7 @@
 //! The states of a file's record.
 
 /// What one brick has of a file.
-#[derive(Clone, Copy, Debug, PartialEq, Eq)]
+#[derive(Clone, Copy, PartialEq, Eq)]
 pub enum State {
     /// The brick has no record of the file.
     Absent,

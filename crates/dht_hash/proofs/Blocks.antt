@@ -1,9 +1,9 @@
--- The blocks of a name, one at a time from the front.
+-- The blocks of a name, one at a time from the start.
 use Rattle.std.proofs.Common.{◌≡◌, ℕ, suc, ◌/◌, ◌<◌, ◌≤◌, List, length, take, drop, length-drop, refl, arith}
 use Rattle.dht_hash.specs.DaviesMeyer.{words, absorb, absorb_all}
 use Rattle.dht_hash.specs.declared.cipher.State.{State}
 
--- a whole block at the front
+-- a whole block as a prefix
 pub absorb_all-block : (pad : ℕ) (bytes : List ℕ) (v : State) → 16 ≤ length bytes
     → absorb_all pad (length bytes / 16) bytes v
     ≡ absorb_all pad (length (drop 16 bytes) / 16) (drop 16 bytes) (absorb 6 (words pad 4 (take 16 bytes)) v)

@@ -1,3 +1,4 @@
 pub mod Cycles
 pub mod Words
 pub mod Blocks
+pub mod DaviesMeyerLaws

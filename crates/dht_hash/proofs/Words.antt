@@ -1,4 +1,4 @@
--- The words of a block, one at a time from the front.
+-- The words of a block, one at a time from the start.
 use Rattle.std.proofs.Common.{◌≡◌, ℕ, zero, suc, ◌<◌, ◌≤◌, List, [], ◌∷◌, length, take, drop, replicate, refl, ap, arith}
 use Rattle.std.specs.Prelude.{fold}
 use Rattle.byteorder.specs.Endian.{little_number}

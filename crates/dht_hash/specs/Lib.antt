@@ -1,2 +1,1 @@
 pub mod DaviesMeyer
-pub mod DaviesMeyerLaws

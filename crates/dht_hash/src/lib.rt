@@ -3,7 +3,6 @@
 
 ghost use Rattle.std.specs.Prelude.{◌≡◌, ◌<◌, ◌^◌, ℕ, List};
 ghost use Rattle.dht_hash.specs.DaviesMeyer.{dm};
-ghost use Rattle.dht_hash.specs.DaviesMeyerLaws.{dm_below};
 
 mod block;
 mod cipher;
@@ -40,6 +39,3 @@ pub fn dm_hash(name: &[u8]) -> u32
 pub fn the_hash_is_a_word()
     ensures { (name : List ℕ) → dm name < 2 ^ 32 }
 {}
-
-#[cfg(test)]
-mod tests;

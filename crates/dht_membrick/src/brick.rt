@@ -3,7 +3,6 @@
 ghost use Rattle.std.specs.Prelude.{◌≡◌};
 ghost use Rattle.dht_names.specs.Kept.{tables_in};
 
-use crate::locks::LockRows;
 use dht_brick::brick::Brick;
 use dht_brick::census::Census;
 use dht_brick::journal::{Journal, JournalEntry};
@@ -11,8 +10,9 @@ use dht_brick::pokes::{PokeAt, PokeFault};
 use dht_brick::replies::Reply;
 use dht_brick::requests::Request;
 use dht_files::Files;
+use dht_locks::Locks;
 use dht_names::tables::Tables;
-use dht_opens::opens::Opens;
+use dht_opens::Opens;
 use dht_types::identifiers::{BrickNo, CallNo, ClientNo, Gfid};
 use dht_types::lines::DumpLine;
 use dht_types::volumes::Volume;
@@ -28,7 +28,7 @@ pub struct MemBrick {
     pub(crate) tables: Tables,
     pub(crate) files: Files,
     pub(crate) opens: Opens,
-    pub(crate) locks: LockRows,
+    pub(crate) locks: Locks,
     pub(crate) is_up: bool,
     pub(crate) is_armed: bool,
     pub(crate) faults: u64,

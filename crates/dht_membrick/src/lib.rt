@@ -3,12 +3,8 @@
 #![tactic(auto)]
 
 mod brick;
-mod locks;
 mod newborn;
 mod parts;
 mod serve;
 
 pub use brick::MemBrick;
-
-#[cfg(test)]
-mod tests;

@@ -2,7 +2,7 @@
 
 ghost use Rattle.std.specs.Prelude.{◌≡◌, ◌<◌, [], length, true, None, IfOk, IfSome, if◌then◌else◌};
 ghost use Rattle.dht_types.specs.Gfid.{root};
-ghost use Rattle.dht_types.specs.Saved.{IsText};
+ghost use Rattle.dht_types.specs.Saved.{IsValue};
 ghost use Rattle.dht_types.specs.declared.saved.Saved.{Saved};
 ghost use Rattle.dht_xattr.specs.Plan.{planned_value};
 ghost use Rattle.dht_brick.specs.Bricks.{IsNewborn};
@@ -10,11 +10,11 @@ ghost use Rattle.dht_brick.specs.Saving.{IsDirOf};
 ghost use Rattle.dht_membrick.specs.State.{mem_state};
 
 use crate::brick::MemBrick;
-use crate::locks::LockRows;
 use dht_brick::journal::Journal;
 use dht_files::Files;
+use dht_locks::Locks;
 use dht_names::tables::Tables;
-use dht_opens::opens::Opens;
+use dht_opens::Opens;
 use dht_types::bytes::Bytes;
 use dht_types::identifiers::{BrickNo, Gfid};
 use dht_types::saved::{Saved, SavedDir, SavedSlots};
@@ -32,7 +32,7 @@ fn planned_value(
 ) -> Result<Option<Bytes>, AllocError>
     requires { brick.0 < length volume.now.names }
     ensures value { IfOk result (λ v. v ≡ planned_value volume.now.weights root brick.0) }
-    ensures text { IfOk result (λ v. IfSome v IsText) }
+    ensures text { IfOk result (λ v. IfSome v IsValue) }
 {
     a_plan_has_each_hash_once();
     volume.bricks();
@@ -52,7 +52,7 @@ fn first_value(
 ) -> Result<Option<Bytes>, AllocError>
     requires { brick.0 < length volume.now.names }
     ensures value { IfOk result (λ v. v ≡ (if first then planned_value volume.now.weights root brick.0 else None)) }
-    ensures text { IfOk result (λ v. IfSome v IsText) }
+    ensures text { IfOk result (λ v. IfSome v IsValue) }
 {
     if first {
         planned_value(alloc, volume, brick)
@@ -63,7 +63,7 @@ fn first_value(
 
 /// The record of the root, with this attribute.
 fn root_record(alloc: Global, value: Option<Bytes>) -> Saved
-    requires { IfSome value IsText }
+    requires { IfSome value IsValue }
     ensures is { result ≡ Saved.Dir (record { gfid = root; dir = record { place = None; depth = 0; value = value }; slots = [] }) }
     ensures spelled { IsDirOf root result }
 {
@@ -103,7 +103,7 @@ impl MemBrick {
             tables,
             files: Files::new(alloc),
             opens: Opens::new(alloc),
-            locks: LockRows::new(alloc),
+            locks: Locks::new(alloc),
             is_up: true,
             is_armed: false,
             faults: 0,

@@ -4,12 +4,12 @@ ghost use Rattle.std.specs.Prelude.{◌≡◌, ◌≢◌};
 ghost use Rattle.dht_brick.specs.LockRows.{lock_row, unlock_row};
 ghost use Rattle.dht_brick.specs.OpenRows.{register_row, unregister_row, seal_row};
 ghost use Rattle.dht_brick.specs.Outcome.{Serves};
+ghost use Rattle.dht_locks.specs.Held.{locks_in};
 ghost use Rattle.dht_opens.specs.Opens.{opens_in};
-ghost use Rattle.dht_membrick.specs.Held.{locks};
 
-use crate::locks::LockRows;
 use dht_brick::replies::{Given, Reply, Why};
-use dht_opens::opens::{OpenFault, Opens, SealFault};
+use dht_locks::{Asked, Locks};
+use dht_opens::{OpenFault, Opens, SealFault};
 use dht_types::identifiers::{CallNo, ClientNo, Gfid};
 use dht_types::locks::{Key, Mode};
 
@@ -44,21 +44,24 @@ pub(crate) fn seal(opens: &mut Opens, file: Gfid) -> Reply
     }
 }
 
-/// The client holds the lock so.
-pub(crate) fn lock(rows: &mut LockRows, client: ClientNo, key: &Key, mode: Mode) -> Reply
-    ensures { Serves (lock_row client key.now mode (locks rows.old)) (locks rows.old) result (locks rows.new) }
+/// The client holds the lock so, unless it has to wait for another one.
+pub(crate) fn lock(locks: &mut Locks, client: ClientNo, key: &Key, mode: Mode) -> Reply
+    ensures { Serves (lock_row client key.now mode (locks_in locks.old))
+        (locks_in locks.old) result (locks_in locks.new) }
 {
-    match rows.hold(*key, client, mode) {
-        Ok(()) => Reply::Ok(Given::Nothing),
-        Err(_) => Reply::NoMemory,
+    match locks.ask(client, key, mode) {
+        Asked::Granted => Reply::Ok(Given::Nothing),
+        Asked::Wait(holder) => Reply::Wait(holder),
+        Asked::OutOfMemory => Reply::NoMemory,
     }
 }
 
 /// The client does not hold the lock.
-pub(crate) fn unlock(rows: &mut LockRows, client: ClientNo, key: &Key) -> Reply
-    ensures row { Serves (unlock_row client key.now (locks rows.old)) (locks rows.old) result (locks rows.new) }
+pub(crate) fn unlock(locks: &mut Locks, client: ClientNo, key: &Key) -> Reply
+    ensures row { Serves (unlock_row client key.now (locks_in locks.old))
+        (locks_in locks.old) result (locks_in locks.new) }
     ensures memory { result ≢ Reply.NoMemory }
 {
-    rows.free(key, client);
+    locks.free(client, key);
     Reply::Ok(Given::Nothing)
 }

@@ -6,7 +6,7 @@ use Rattle.std.specs.BTreeMap.{is_at}
 use Rattle.std.specs.Ordering.{is_eq, eq_by_cmp}
 use Rattle.std.specs.declared.cmp.Ordering.{Ordering}
 use Rattle.std.specs.declared.cmp.Ordering.TheVariants.{Less, Equal, Greater}
-use Rattle.std.specs.FinMap.{get, insert, remove, from_entries, get-insert, get-remove, get_tied, same_map}
+use Rattle.std.specs.FinMap.{FinMap, get, insert, remove, from_entries, get-insert, get-remove, get_tied, same_map}
 use Rattle.std.specs.Cmp.{eq_by_cmp_equiv, tied_itself}
 use Rattle.dht_types.specs.declared.identifiers.Gfid.{Gfid}
 use Rattle.dht_types.specs.declared.stored.DirRecord.{DirRecord}
@@ -16,22 +16,26 @@ use Rattle.dht_brick.proofs.TableLemmas.{gfid_total, gfid_exact, get-plain, remo
 abbrev pub dirs_from : List (Gfid × DirRecord) → Dirs
 dirs_from es = from_entries {R = gfid_cmp} es
 
+-- the same for values of any kind
+abbrev pub table_from : {X : Type 0} → List (Gfid × X) → FinMap gfid_cmp X
+table_from es = from_entries {R = gfid_cmp} es
+
 -- entries that differ at one key make finite maps that differ there
-pub insert-plain : (es fs : List (Gfid × DirRecord)) (k : Gfid) (v : DirRecord) → ((q : Gfid) → lookup (is_at (gfid_cmp q)) fs ≡ cond (is_at (gfid_cmp k) q) (Some v) (lookup (is_at (gfid_cmp q)) es)) → dirs_from fs ≡ insert (dirs_from es) k v
+pub insert-plain : {X : Type 0} (es fs : List (Gfid × X)) (k : Gfid) (v : X) → ((q : Gfid) → lookup (is_at (gfid_cmp q)) fs ≡ cond (is_at (gfid_cmp k) q) (Some v) (lookup (is_at (gfid_cmp q)) es)) → table_from fs ≡ insert (table_from es) k v
 insert-plain es fs k v h =
-    same_map gfid_total gfid_exact (dirs_from fs) (insert (dirs_from es) k v) (λ q.
+    same_map gfid_total gfid_exact (table_from fs) (insert (table_from es) k v) (λ q.
     get-plain gfid_total fs q ∙ h q
     ∙ ap (λ b. cond b (Some v) (lookup (is_at (gfid_cmp q)) es)) ((eq_by_cmp_equiv gfid_total).symm k q)
     ∙ ap (cond (eq_by_cmp gfid_cmp q k) (Some v)) (sym (get-plain gfid_total es q))
-    ∙ sym (get-insert gfid_total (dirs_from es) k v q))
+    ∙ sym (get-insert gfid_total (table_from es) k v q))
 
-pub remove-plain : (es fs : List (Gfid × DirRecord)) (k : Gfid) → ((q : Gfid) → lookup (is_at (gfid_cmp q)) fs ≡ cond (is_at (gfid_cmp k) q) None (lookup (is_at (gfid_cmp q)) es)) → dirs_from fs ≡ remove (dirs_from es) k
+pub remove-plain : {X : Type 0} (es fs : List (Gfid × X)) (k : Gfid) → ((q : Gfid) → lookup (is_at (gfid_cmp q)) fs ≡ cond (is_at (gfid_cmp k) q) None (lookup (is_at (gfid_cmp q)) es)) → table_from fs ≡ remove (table_from es) k
 remove-plain es fs k h =
-    same_map gfid_total gfid_exact (dirs_from fs) (remove (dirs_from es) k) (λ q.
+    same_map gfid_total gfid_exact (table_from fs) (remove (table_from es) k) (λ q.
     get-plain gfid_total fs q ∙ h q
     ∙ ap (λ b. cond b None (lookup (is_at (gfid_cmp q)) es)) ((eq_by_cmp_equiv gfid_total).symm k q)
     ∙ ap (cond (eq_by_cmp gfid_cmp q k) None) (sym (get-plain gfid_total es q))
-    ∙ sym (get-remove gfid_total (dirs_from es) k q))
+    ∙ sym (get-remove gfid_total (table_from es) k q))
 
 tied : (r : Ordering) → is_eq r ≡ true → r ≡ Equal
 tied Less e = cc

@@ -1,3 +1,4 @@
+pub mod Counts
 pub mod Kept
 pub mod Served
-pub mod TwoFiles
+pub mod Slots

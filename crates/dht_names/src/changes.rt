@@ -214,8 +214,10 @@ impl Tables {
         if !parts.is_plain(over) || !are_two {
             return refused(parts);
         }
-        self.slots.replace_main(key, KeptMain::File(file, None));
-        Reply::Ok(Given::Links(self.slots.links(over)))
+        match self.slots.put_main(key, KeptMain::File(file, None)) {
+            Ok(()) => Reply::Ok(Given::Links(self.slots.links(over))),
+            Err(_) => Reply::NoMemory,
+        }
     }
 
     /// Marks the name of a file: it will be that of a file on this other brick.
@@ -308,7 +310,7 @@ impl Tables {
         if !parts.is_standlink(file) {
             return refused(parts);
         }
-        self.slots.replace_whole(key, KeptMain::File(file, None));
+        self.slots.settle(key, file);
         Reply::Ok(Given::Nothing)
     }
 

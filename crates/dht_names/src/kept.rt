@@ -18,7 +18,7 @@ use std::alloc::{AllocError, Global};
 /// A linkto value that names a brick has 65 bytes at most, and a request that puts one in the place
 /// of a file is to take no memory. So a value of up to 255 bytes is kept in place, and a longer one,
 /// which names no brick, on the heap.
-#[derive(Debug, Drop)]
+#[derive(Drop)]
 pub(crate) enum KeptMain {
     Dir(Gfid),
     File(Gfid, Option<BrickNo>),
@@ -98,7 +98,7 @@ impl KeptMain {
 }
 
 /// The parts of a slot.
-#[derive(Debug, Drop)]
+#[derive(Drop)]
 pub(crate) struct KeptSlot {
     pub(crate) main: Option<KeptMain>,
     pub(crate) standby: Option<Standby>,

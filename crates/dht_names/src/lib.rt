@@ -2,13 +2,13 @@
 #![tactic(auto)]
 
 mod changes;
+mod counts;
 mod dirs;
 mod kept;
 mod looks;
 mod pokes;
 mod saving;
 mod serve;
+mod slot_map;
 mod slots;
 pub mod tables;
-#[cfg(test)]
-mod tests;

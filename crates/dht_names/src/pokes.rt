@@ -5,7 +5,7 @@ ghost use Rattle.std.specs.Option.{option_map, option_copied};
 ghost use Rattle.dht_brick.specs.Bricks.{PokesTo};
 ghost use Rattle.dht_brick.specs.Contents.{Files, store_of};
 ghost use Rattle.dht_brick.specs.Events.{poked, value_of};
-ghost use Rattle.dht_brick.specs.Within.{IsValue};
+ghost use Rattle.dht_types.specs.Saved.{IsValue};
 ghost use Rattle.dht_brick.specs.declared.pokes.PokeAt.{PokeAt};
 ghost use Rattle.dht_brick.specs.declared.pokes.PokeFault.{PokeFault};
 ghost use Rattle.dht_names.specs.Kept.{tables_in};

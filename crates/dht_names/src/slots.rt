@@ -1,80 +1,49 @@
-//! The slots of a brick in memory.
+//! The slots of a brick in memory, and for which gfids they stand.
 
-ghost use Rattle.std.specs.Prelude.{◌≡◌, ◌++◌, ◌<◌, ◌≤◌, ◌^◌, ◌&&◌, ◌+◌, Bool, None, IsSome, true, false, map, filter, count_by, not, length, is_some, IfOk, OnOk, OnErr};
-ghost use Rattle.std.specs.List.{list_any};
-ghost use Rattle.std.specs.Option.{option_copied, option_map};
-ghost use Rattle.std.specs.FinMap.{get, insert, remove, retain_keys, empty, entries, len};
-ghost use Rattle.std.specs.BTreeMap.{values, IsOrdered};
-ghost use Rattle.dht_types.specs.Gfid.{same_gfid};
-ghost use Rattle.dht_types.specs.declared.names.EntryKey.{EntryKey};
+ghost use Rattle.std.specs.Prelude.{◌≡◌, ◌++◌, None, false, true, map, IfOk, OnOk, OnErr};
+ghost use Rattle.std.specs.FinMap.{insert, remove, empty, entries, len};
+ghost use Rattle.dht_types.specs.declared.stored.Main.{Main};
 ghost use Rattle.dht_types.specs.declared.stored.Standby.{Standby};
-ghost use Rattle.dht_brick.specs.Contents.{entry_at, entry_cmp, slot_in, bare};
+ghost use Rattle.dht_brick.specs.Contents.{entry_at, slot_in, bare};
 ghost use Rattle.dht_brick.specs.Dump.{slot_line};
 ghost use Rattle.dht_brick.specs.Links.{links, is_marked, is_occupied};
-ghost use Rattle.dht_brick.specs.Looks.{page_of, page_entry, page_size, is_on_page};
-ghost use Rattle.dht_brick.specs.Parts.{slot_shown, slots_outside, put_slot, is_bare, is_file, is_standlink, is_contested, is_visible, with_main, without_main, with_standby, without_standby};
-ghost use Rattle.dht_brick.specs.Saving.{slots_saved, slots_restored, saved_slot};
-ghost use Rattle.dht_names.specs.Kept.{main_of, slot_of, slots_in};
+ghost use Rattle.dht_brick.specs.Looks.{page_of};
+ghost use Rattle.dht_brick.specs.Parts.{slot_shown, slots_outside, put_slot, is_bare, with_main, without_main, with_standby, without_standby};
+ghost use Rattle.dht_brick.specs.Saving.{slots_saved, slots_restored};
+ghost use Rattle.dht_names.specs.Counts.{IsCounted, Covers, keeps_main, is_to_be, tallies_in};
+ghost use Rattle.dht_names.specs.Slots.{main_of, slot_of, map_in};
 
+use crate::counts::{Counts, Kind};
 use crate::kept::{KeptMain, KeptSlot};
-use dht_brick::order::{PAGE_SIZE, is_name_above};
-use dht_brick::replies::{Page, PageEntry, SlotShown};
+use crate::slot_map::SlotMap;
+use dht_brick::replies::{Page, SlotShown};
 use dht_types::identifiers::{BrickNo, Gfid};
 use dht_types::lines::DumpLine;
 use dht_types::names::{EntryKey, Name};
 use dht_types::saved::{SavedSlot, SavedSlots};
 use dht_types::stored::{Slot, Standby};
 use std::alloc::{AllocError, Global};
-use std::collections::BTreeMap;
 
-/// How many of these slots are this file's by their main part.
-fn files_among(kept: &BTreeMap<EntryKey, KeptSlot>, file: Gfid) -> usize
-    ensures count { result ≡ count_by (λ k. is_file file (slot_of k).main) (values kept.now) }
-    ensures small { result < 2 ^ 63 }
-    ensures ordered { IsOrdered (λ a b. entry_cmp (entry_at a) (entry_at b)) kept.now }
-{
-    kept.values().filter(|slot| slot.is_file(file)).count()
-}
-
-/// How many of these slots are readied for this file.
-fn readied_among(kept: &BTreeMap<EntryKey, KeptSlot>, file: Gfid) -> usize
-    ensures count { result ≡ count_by (λ k. is_standlink file (slot_of k).standby) (values kept.now) }
-    ensures small { result < 2 ^ 63 }
-{
-    kept.values().filter(|slot| slot.is_standlink(file)).count()
-}
-
-/// Whether one of these slots is this file's and is marked.
-fn is_one_marked(kept: &BTreeMap<EntryKey, KeptSlot>, file: Gfid) -> bool
-    ensures any { result ≡ list_any (λ k. is_contested file (slot_of k).main) (values kept.now) }
-    ensures ordered { IsOrdered (λ a b. entry_cmp (entry_at a) (entry_at b)) kept.now }
-{
-    kept.values().any(|slot| slot.is_contested(file))
-}
-
-/// Whether one of these slots is in this directory and visible.
-fn is_one_in(kept: &BTreeMap<EntryKey, KeptSlot>, dir: Gfid) -> bool
-    ensures any { result ≡ list_any (λ e. same_gfid dir e.0.dir && is_visible (slot_of e.1)) kept.now.entries }
-    ensures ordered { IsOrdered (λ a b. entry_cmp (entry_at a) (entry_at b)) kept.now }
-{
-    kept.iter()
-        .any(|(key, slot)| dir == key.dir && slot.is_visible())
-}
-
-/// The slots of a brick, by directory and name. Contracts speak of `slots_in`. No slot is kept that
-/// has neither part.
+/// The slots of a brick, by directory and name, and for how many each gfid stands. Contracts speak of
+/// `slots_in`. No slot is kept that has neither part.
 #[derive(Drop)]
 pub(crate) struct SlotTable {
-    kept: BTreeMap<EntryKey, KeptSlot>,
+    map: SlotMap,
+    counts: Counts,
+    /// The counts are those of the slots.
+    ghost counted: { IsCounted (map_in map) (tallies_in counts) },
 }
 
 impl SlotTable {
+    ghost use Rattle.dht_names.specs.Kept.{slots_in};
+
     /// No slots.
     pub(crate) fn new(alloc: Global) -> SlotTable
         ensures { slots_in result ≡ empty }
     {
         SlotTable {
-            kept: BTreeMap::new(alloc),
+            map: SlotMap::new(alloc),
+            counts: Counts::new(alloc),
         }
     }
 
@@ -82,91 +51,65 @@ impl SlotTable {
     pub(crate) fn len(&self) -> usize
         ensures { result ≡ len (slots_in self.now) }
     {
-        self.kept.len()
-    }
-
-    /// What is kept at a key.
-    fn get(&self, key: &EntryKey) -> Option<&KeptSlot>
-        ensures { option_map slot_of (option_copied result) ≡ get (slots_in self.now) (entry_at key.now) }
-    {
-        self.kept.get(key)
-    }
-
-    /// Keeps these parts at a key. It takes memory only where there was no slot.
-    fn insert(&mut self, key: EntryKey, slot: KeptSlot) -> Result<(), AllocError>
-        ensures ok { OnOk result (slots_in self.new ≡ insert (slots_in self.old) (entry_at key) (slot_of slot)) }
-        ensures err { OnErr result (slots_in self.new ≡ slots_in self.old) }
-        ensures absent { OnErr result (get (slots_in self.old) (entry_at key) ≡ None) }
-    {
-        self.kept.insert(key, slot)?;
-        Ok(())
-    }
-
-    /// Keeps these parts where there was a slot.
-    fn replace(&mut self, key: &EntryKey, slot: KeptSlot)
-        requires { IsSome (get (slots_in self.old) (entry_at key.now)) }
-        ensures { slots_in self.new ≡ insert (slots_in self.old) (entry_at key.now) (slot_of slot) }
-    {
-        let Some(kept) = self.kept.get_mut(key) else {
-            return;
-        };
-        *kept = slot;
-    }
-
-    /// Gives a slot that is there this standby part, or none.
-    fn set_standby(&mut self, key: &EntryKey, standby: Option<Standby>)
-        requires { IsSome (get (slots_in self.old) (entry_at key.now)) }
-        ensures { slots_in self.new ≡ insert (slots_in self.old) (entry_at key.now)
-            (record (slot_in (slots_in self.old) (entry_at key.now)) { standby = standby }) }
-    {
-        let Some(kept) = self.kept.get_mut(key) else {
-            return;
-        };
-        kept.standby = standby;
-    }
-
-    /// Takes a slot away, if it is there.
-    pub(crate) fn remove(&mut self, key: &EntryKey)
-        ensures { slots_in self.new ≡ remove (slots_in self.old) (entry_at key.now) }
-    {
-        self.kept.remove(key);
+        self.map.len()
     }
 
     /// The parts of a slot, as a refusal shows them.
     pub(crate) fn parts(&self, key: &EntryKey) -> SlotShown
         ensures { result ≡ slot_shown (slot_in (slots_in self.now) (entry_at key.now)) }
     {
-        match self.get(key) {
-            None => SlotShown {
-                main: None,
-                standby: None,
-            },
-            Some(slot) => slot.shown(),
-        }
+        self.map.parts(key)
     }
 
     /// The parts of a slot.
     pub(crate) fn slot(&self, alloc: Global, key: &EntryKey) -> Result<Slot, AllocError>
         ensures { IfOk result (λ s. s ≡ slot_in (slots_in self.now) (entry_at key.now)) }
     {
-        match self.get(key) {
-            None => Ok(Slot {
-                main: None,
-                standby: None,
-            }),
-            Some(slot) => slot.copied(alloc),
+        self.map.slot(alloc, key)
+    }
+
+    /// Keeps these parts at a key. Where there is no memory for it, nothing changes.
+    fn put(&mut self, key: EntryKey, slot: KeptSlot) -> Result<(), AllocError>
+        ensures ok { OnOk result (slots_in self.new ≡ insert (slots_in self.old) (entry_at key) (slot_of slot)) }
+        ensures err { OnErr result (slots_in self.new ≡ slots_in self.old) }
+    {
+        self.map.len();
+        let old = self.map.parts(&key);
+        let new = slot.shown();
+        self.counts.admit(key.dir, &new)?;
+        match self.map.insert(key, slot) {
+            Ok(()) => {
+                self.counts.recount(key.dir, &old, &new);
+                Ok(())
+            }
+            Err(error) => {
+                self.counts.tidy(key.dir, &new);
+                Err(error)
+            }
         }
     }
 
-    /// Gives a slot this main part. It takes memory only where there was no slot.
+    /// Keeps these parts where there was a slot that counted for each gfid for which they count.
+    fn replace(&mut self, key: &EntryKey, slot: KeptSlot)
+        requires there { is_bare (slot_in (slots_in self.old) (entry_at key.now)) ≡ false }
+        requires known { Covers key.now.dir (slot_shown (slot_in (slots_in self.old) (entry_at key.now))) (slot_shown (slot_of slot)) }
+        ensures { slots_in self.new ≡ insert (slots_in self.old) (entry_at key.now) (slot_of slot) }
+    {
+        self.map.len();
+        let old = self.map.parts(key);
+        let new = slot.shown();
+        self.map.replace(key, slot);
+        self.counts.recount(key.dir, &old, &new);
+    }
+
+    /// Gives a slot this main part. It takes memory only where there was no slot, or none of its file.
     pub(crate) fn put_main(&mut self, key: &EntryKey, main: KeptMain) -> Result<(), AllocError>
         ensures ok { OnOk result (slots_in self.new ≡ put_slot (slots_in self.old) (entry_at key.now)
             (with_main (slot_in (slots_in self.old) (entry_at key.now)) (main_of main))) }
         ensures err { OnErr result (slots_in self.new ≡ slots_in self.old) }
-        ensures absent { OnErr result (get (slots_in self.old) (entry_at key.now) ≡ None) }
     {
         let standby = self.parts(key).standby;
-        self.insert(
+        self.put(
             *key,
             KeptSlot {
                 main: Some(main),
@@ -175,9 +118,10 @@ impl SlotTable {
         )
     }
 
-    /// Gives a slot that is there this main part.
+    /// Gives a slot that is there this main part, which is a linkto or the name of the file that has it.
     pub(crate) fn replace_main(&mut self, key: &EntryKey, main: KeptMain)
-        requires { is_bare (slot_in (slots_in self.old) (entry_at key.now)) ≡ false }
+        requires there { is_bare (slot_in (slots_in self.old) (entry_at key.now)) ≡ false }
+        requires known { keeps_main (slot_in (slots_in self.old) (entry_at key.now)).main (main_of main) ≡ true }
         ensures { slots_in self.new ≡ put_slot (slots_in self.old) (entry_at key.now)
             (with_main (slot_in (slots_in self.old) (entry_at key.now)) (main_of main)) }
     {
@@ -191,15 +135,15 @@ impl SlotTable {
         );
     }
 
-    /// Gives a slot that is there this main part, and no standby part.
-    pub(crate) fn replace_whole(&mut self, key: &EntryKey, main: KeptMain)
-        requires { is_bare (slot_in (slots_in self.old) (entry_at key.now)) ≡ false }
-        ensures { slots_in self.new ≡ put_slot (slots_in self.old) (entry_at key.now) (with_main bare (main_of main)) }
+    /// Gives a name to the file for which it is readied, or whose copy is at it.
+    pub(crate) fn settle(&mut self, key: &EntryKey, file: Gfid)
+        requires { is_to_be file (slot_in (slots_in self.old) (entry_at key.now)).standby ≡ true }
+        ensures { slots_in self.new ≡ put_slot (slots_in self.old) (entry_at key.now) (with_main bare (Main.File file None)) }
     {
         self.replace(
             key,
             KeptSlot {
-                main: Some(main),
+                main: Some(KeptMain::File(file, None)),
                 standby: None,
             },
         );
@@ -234,23 +178,31 @@ impl SlotTable {
         self.links(file)
     }
 
-    /// Gives a slot this standby part. It takes memory only where there was no slot.
+    /// Gives a slot this standby part. Where there is no memory for it, nothing changes.
     pub(crate) fn put_standby(&mut self, key: &EntryKey, standby: Standby) -> Result<(), AllocError>
         ensures ok { OnOk result (slots_in self.new ≡ put_slot (slots_in self.old) (entry_at key.now)
             (with_standby (slot_in (slots_in self.old) (entry_at key.now)) standby)) }
         ensures err { OnErr result (slots_in self.new ≡ slots_in self.old) }
     {
-        if self.get(key).is_some() {
-            self.set_standby(key, Some(standby));
-            return Ok(());
+        let old = self.parts(key);
+        if old.is_bare() {
+            return self.put(
+                *key,
+                KeptSlot {
+                    main: None,
+                    standby: Some(standby),
+                },
+            );
         }
-        self.insert(
-            *key,
-            KeptSlot {
-                main: None,
-                standby: Some(standby),
-            },
-        )
+        let new = SlotShown {
+            main: old.main,
+            standby: Some(standby),
+        };
+        self.counts.admit(key.dir, &new)?;
+        self.map.len();
+        self.map.set_standby(key, Some(standby));
+        self.counts.recount(key.dir, &old, &new);
+        Ok(())
     }
 
     /// Takes the standby part of a slot away.
@@ -258,44 +210,63 @@ impl SlotTable {
         ensures { slots_in self.new ≡ put_slot (slots_in self.old) (entry_at key.now)
             (without_standby (slot_in (slots_in self.old) (entry_at key.now))) }
     {
-        if self.parts(key).main.is_some() {
-            self.set_standby(key, None);
-        } else {
+        let old = self.parts(key);
+        if old.main.is_none() {
             self.remove(key);
+            return;
         }
+        let new = SlotShown {
+            main: old.main,
+            standby: None,
+        };
+        self.map.len();
+        self.map.set_standby(key, None);
+        self.counts.recount(key.dir, &old, &new);
+    }
+
+    /// Takes a slot away, if it is there.
+    pub(crate) fn remove(&mut self, key: &EntryKey)
+        ensures { slots_in self.new ≡ remove (slots_in self.old) (entry_at key.now) }
+    {
+        self.map.len();
+        let old = self.map.parts(key);
+        let new = SlotShown {
+            main: None,
+            standby: None,
+        };
+        self.map.remove(key);
+        self.counts.recount(key.dir, &old, &new);
     }
 
     /// Takes away the slots in a directory.
     pub(crate) fn drop_dir(&mut self, dir: Gfid)
         ensures { slots_in self.new ≡ slots_outside (slots_in self.old) dir }
     {
-        self.kept.retain(
-            |key: &EntryKey, slot: &mut KeptSlot| -> bool
-                ensures kept { result ≡ not (same_gfid dir key.now.dir) }
-                ensures same { slot.new ≡ slot.old }
-            { dir != key.dir },
-        );
+        while let Some(key) = self.map.first_in(dir) {
+            self.remove(&key);
+        }
     }
 
     /// How many links a file has: the names that are its, and those that are readied for it.
     pub(crate) fn links(&self, file: Gfid) -> u64
         ensures { result ≡ links (slots_in self.now) file }
     {
-        files_among(&self.kept, file) as u64 + readied_among(&self.kept, file) as u64
+        self.map.len();
+        self.counts.of(file, Kind::Named) + self.counts.of(file, Kind::Readied)
     }
 
     /// Whether a name of the file is marked for a rename.
     pub(crate) fn is_marked(&self, file: Gfid) -> bool
         ensures { result ≡ is_marked (slots_in self.now) file }
     {
-        is_one_marked(&self.kept, file)
+        self.counts.of(file, Kind::Marked) != 0
     }
 
     /// Whether a name in a directory is visible.
     pub(crate) fn is_occupied(&self, dir: Gfid) -> bool
         ensures { result ≡ is_occupied (slots_in self.now) dir }
     {
-        is_one_in(&self.kept, dir)
+        self.counts.of(dir, Kind::Visible) != 0
     }
 
     /// The names of a directory above one, as far as a page goes.
@@ -307,35 +278,14 @@ impl SlotTable {
     ) -> Result<Page, AllocError>
         ensures { IfOk result (λ p. p ≡ page_of (slots_in self.now) dir after.now) }
     {
-        let mut page = Vec::new(alloc);
-        for (key, slot) in &self.kept {
-            if page.len() == PAGE_SIZE {
-                return Ok(Page::new(page));
-            }
-            if dir == key.dir && slot.is_visible() && is_name_above(after, &key.name) {
-                page.push(PageEntry {
-                    name: key.name,
-                    dir: slot.dir(),
-                })?;
-            }
-        }
-        Ok(Page::new(page))
+        self.map.page(alloc, dir, after)
     }
 
     /// The slots in a directory, as they are saved.
     pub(crate) fn saved(&self, alloc: Global, dir: Gfid) -> Result<SavedSlots, AllocError>
         ensures { IfOk result (λ s. s ≡ slots_saved (slots_in self.now) dir) }
     {
-        let mut saved = Vec::new(alloc);
-        for (key, slot) in &self.kept {
-            if dir == key.dir {
-                saved.push(SavedSlot {
-                    name: key.name,
-                    slot: slot.copied(alloc)?,
-                })?;
-            }
-        }
-        Ok(SavedSlots::new(saved))
+        self.map.saved(alloc, dir)
     }
 
     /// The slots outside a directory, and these in it.
@@ -353,7 +303,7 @@ impl SlotTable {
                 dir,
                 name: part.name,
             };
-            table.insert(key, KeptSlot::of(alloc, &part.slot)?)?;
+            table.put(key, KeptSlot::of(alloc, &part.slot)?)?;
         }
         Ok(table)
     }
@@ -363,8 +313,8 @@ impl SlotTable {
         ensures { IfOk result (λ t. slots_in t ≡ slots_outside (slots_in self.now) dir) }
     {
         let mut table = SlotTable::new(alloc);
-        for (key, slot) in self.kept.iter().rev() {
-            table.insert(*key, slot.again(alloc)?)?;
+        for (key, slot) in self.map.kept.iter().rev() {
+            table.put(*key, slot.again(alloc)?)?;
         }
         table.drop_dir(dir);
         Ok(table)
@@ -379,9 +329,6 @@ impl SlotTable {
     ) -> Result<(), AllocError>
         ensures { OnOk result (out.new.items ≡ out.old.items ++ map (slot_line brick) (entries (slots_in self.now))) }
     {
-        for (key, slot) in &self.kept {
-            out.push(DumpLine::Slot(brick, key.dir, key.name, slot.copied(alloc)?))?;
-        }
-        Ok(())
+        self.map.dump(alloc, brick, out)
     }
 }

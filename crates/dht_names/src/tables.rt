@@ -154,6 +154,6 @@ impl Slots for Tables {
     }
 
     fn put_file(&mut self, key: &EntryKey, file: Gfid) {
-        self.slots.replace_whole(key, KeptMain::File(file, None));
+        self.slots.settle(key, file);
     }
 }

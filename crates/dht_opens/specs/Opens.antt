@@ -6,11 +6,11 @@ use Rattle.dht_types.specs.declared.identifiers.Gfid.{Gfid}
 use Rattle.dht_brick.specs.Contents.{Opens}
 use Rattle.dht_brick.specs.OpenRows.{registrations, is_sealed, registered, sealed}
 use Rattle.dht_brick.specs.declared.opens.Registration.{Registration}
-use Rattle.dht_opens.specs.declared.opens.OpenFault.{OpenFault}
-use Rattle.dht_opens.specs.declared.opens.OpenFault.TheVariants as unopened
-use Rattle.dht_opens.specs.declared.opens.SealFault.{SealFault}
-use Rattle.dht_opens.specs.declared.opens.SealFault.TheVariants as unsealed
-use Rattle.dht_opens.specs.declared.opens.Opens.{Opens as Kept}
+use Rattle.dht_opens.specs.declared.registrations.OpenFault.{OpenFault}
+use Rattle.dht_opens.specs.declared.registrations.OpenFault.TheVariants as unopened
+use Rattle.dht_opens.specs.declared.registrations.SealFault.{SealFault}
+use Rattle.dht_opens.specs.declared.registrations.SealFault.TheVariants as unsealed
+use Rattle.dht_opens.specs.declared.registrations.Opens.{Opens as Kept}
 
 -- the set of these keys
 abbrev pub set_of : {K : Type 0} {R : K → K → Ordering} → List K → FinMap R (Unit {0})

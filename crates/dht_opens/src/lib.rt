@@ -1,4 +1,6 @@
 //! The registrations and seals of a brick, in memory.
 #![tactic(auto)]
 
-pub mod opens;
+mod registrations;
+
+pub use registrations::{OpenFault, Opens, SealFault};

@@ -15,7 +15,8 @@ use Rattle.dht_types.specs.declared.events.Event.TheVariants.{Volume, Call as Ca
 use Rattle.dht_sched.specs.declared.fault.LineFault.{LineFault}
 use Rattle.dht_sched.specs.declared.fault.LineFault.TheVariants.{Malformed, OutOfMemory}
 use Rattle.dht_sched.specs.Reading.{ReadsUnless}
-use Rattle.dht_sched.specs.Schedule.{directory_word, schedule_words, schedule_text, IsScheduled, IsReadOf, IsScheduledVolume, IsFileName, IsOneLine, HasWeight}
+use Rattle.dht_types.specs.Volume.{HasWeight}
+use Rattle.dht_sched.specs.Schedule.{directory_word, schedule_words, schedule_text, IsScheduled, IsReadOf, IsScheduledVolume, IsFileName, IsOneLine}
 use Rattle.dht_sched.specs.Spelling.{spaced, spelled, words_of}
 use Rattle.dht_sched.proofs.NameLemmas.{file_text, file_bytes, same_name, text_word, length-bytes_text-le}
 use Rattle.dht_sched.proofs.WordLemmas.{IsWord, words_of-spaced, spaced-words_of, no_newline, room, length-spaced-le}

@@ -109,7 +109,7 @@ same_name m n hm hn e =
     nothing_left [] e' = refl
     nothing_left (b ∷ more) e' = absurd (not_nil b (bytes_text more) (sym e'))
 
--- ---- the spelling at the front of a text
+-- ---- a spelling as the prefix of a text
 
 begins : (b : ℕ) (rest : List ℕ) → 0 < length (spelled_byte b ++ rest)
 begins b rest =
@@ -122,14 +122,14 @@ begins b rest =
 pub empty_begins : (text : List ℕ) (b : ℕ) (rest : List ℕ) → length text < 1 → text ≡ spelled_byte b ++ rest → ⊥
 empty_begins text b rest short e = let long = begins b rest in let same = ap length e in omega arith
 
--- the spelling of a byte at the front of a text that begins with no plain byte
+-- the spelling of a byte as the prefix of a text that begins with no plain byte
 pub record Escapes (first b : ℕ) (more rest : List ℕ) : Type 0 where
   pub percent : first ≡ 37
   pub bare : is_plain b ≡ false
   pub digits : more ≡ hex_digit (b / 16) ∷ hex_digit (b % 16) ∷ rest
 
 pub only_escaped : (text more : List ℕ) (first b : ℕ) (rest : List ℕ) → text ≡ first ∷ more → is_plain first ≡ false → text ≡ spelled_byte b ++ rest → Escapes first b more rest
-only_escaped text more first b rest front bare e =
+only_escaped text more first b rest starts bare e =
     elim (plain_or b) [
       | inl p ↦ absurd (let f : text ≡ b ∷ rest = rw (spelled_plain b p) at e in let same : first ≡ b = cc in false≢true (sym (subst (λ (x : ℕ). is_plain x ≡ false) same bare) ∙ p))
       | inr p ↦ (let f : text ≡ 37 ∷ hex_digit (b / 16) ∷ hex_digit (b % 16) ∷ rest = rw (spelled_escaped b p) at e in record { percent = cc; bare = p; digits = cc })
@@ -139,14 +139,14 @@ only_escaped text more first b rest front bare e =
 pub long_enough : (first b : ℕ) (more rest : List ℕ) → Escapes first b more rest → 2 ≤ length more
 long_enough first b more rest h = let size = ap length h.digits in omega arith
 
-pub plain_front : (text rest : List ℕ) (b : ℕ) → text ≡ b ∷ rest → is_plain b ≡ true → text ≡ spelled_byte b ++ rest
-plain_front text rest b e p = rw (spelled_plain b p) e
+pub plain_prefix : (text rest : List ℕ) (b : ℕ) → text ≡ b ∷ rest → is_plain b ≡ true → text ≡ spelled_byte b ++ rest
+plain_prefix text rest b e p = rw (spelled_plain b p) e
 
-pub escaped_front : (text more : List ℕ) (first b : ℕ) → text ≡ first ∷ more → first ≡ 37 → 2 ≤ length more → is_plain b ≡ false → hex_digit (b / 16) ∷ hex_digit (b % 16) ∷ [] ≡ get_or (take 2 more) 0 0 ∷ get_or (take 2 more) 1 0 ∷ []
+pub escaped_prefix : (text more : List ℕ) (first b : ℕ) → text ≡ first ∷ more → first ≡ 37 → 2 ≤ length more → is_plain b ≡ false → hex_digit (b / 16) ∷ hex_digit (b % 16) ∷ [] ≡ get_or (take 2 more) 0 0 ∷ get_or (take 2 more) 1 0 ∷ []
     → text ≡ spelled_byte b ++ drop 2 more
-escaped_front text [] first b e percent long p same = absurd (omega arith)
-escaped_front text (x ∷ []) first b e percent long p same = absurd (omega arith)
-escaped_front text (x ∷ y ∷ rest) first b e percent long p same = rw (spelled_escaped b p) (cc (e, percent, same))
+escaped_prefix text [] first b e percent long p same = absurd (omega arith)
+escaped_prefix text (x ∷ []) first b e percent long p same = absurd (omega arith)
+escaped_prefix text (x ∷ y ∷ rest) first b e percent long p same = rw (spelled_escaped b p) (cc (e, percent, same))
 
 -- ---- a name that was read up to a rest
 
@@ -189,12 +189,12 @@ only_name word xs e small n h same =
 -- one byte more
 pub read_on : (word bytes rest after : List ℕ) (size b : ℕ) → size < length bytes → word ≡ bytes_text (take size bytes) ++ rest → rest ≡ spelled_byte b ++ after → word ≡ bytes_text (take (size + 1) (set bytes size b)) ++ after
 read_on word bytes rest after size b lt e f =
-    let front : take (size + 1) (set bytes size b) ≡ take size bytes ++ b ∷ [] = take_more_set bytes size b lt in
-    let text : bytes_text (take (size + 1) (set bytes size b)) ≡ bytes_text (take size bytes) ++ spelled_byte b = ap bytes_text front ∙ (flat_map-append spelled_byte (take size bytes) (b ∷ []) ∙ ap (λ t. bytes_text (take size bytes) ++ t) (append-nil (spelled_byte b))) in
+    let extended : take (size + 1) (set bytes size b) ≡ take size bytes ++ b ∷ [] = take_more_set bytes size b lt in
+    let text : bytes_text (take (size + 1) (set bytes size b)) ≡ bytes_text (take size bytes) ++ spelled_byte b = ap bytes_text extended ∙ (flat_map-append spelled_byte (take size bytes) (b ∷ []) ∙ ap (λ t. bytes_text (take size bytes) ++ t) (append-nil (spelled_byte b))) in
     e ∙ (ap (λ r. bytes_text (take size bytes) ++ r) f ∙ (sym (append_assoc (bytes_text (take size bytes)) (spelled_byte b) after) ∙ ap (λ t. t ++ after) (sym text)))
 
 pub bytes_on : (bytes : List ℕ) (size b : ℕ) → size < length bytes → b < 256 → All IsByte (take size bytes) → All IsByte (take (size + 1) (set bytes size b))
-bytes_on bytes size b lt small so_far = let front = take_more_set bytes size b lt in rw front (All-push IsByte (take size bytes) b so_far small)
+bytes_on bytes size b lt small so_far = let extended = take_more_set bytes size b lt in rw extended (All-push IsByte (take size bytes) b so_far small)
 
 pub shorter : (rest after : List ℕ) (b : ℕ) → rest ≡ spelled_byte b ++ after → length after < length rest
 shorter rest after b e =

@@ -63,7 +63,7 @@ refusal_word refusal.Dirty = codes "dirty"
 refusal_word refusal.Sealed = codes "sealed"
 refusal_word refusal.Open = codes "open"
 
--- a lock that waits has no such word yet; no step line has it
+-- the word of a reply on a step line
 abbrev pub reply_word : ReplyKind → List ℕ
 reply_word reply.Ok = codes "ok"
 reply_word (reply.Refused why) = codes "refused:" ++ refusal_word why

@@ -26,6 +26,6 @@ field_words (field.Main main) = main_words main.now
 field_words (field.Standby standby) = standby_words standby
 field_words (field.Record line) = record_words line.now
 
--- words with a space in front of each
+-- words with a space before each
 abbrev pub behind_spaces : List (List ℕ) → List ℕ
 behind_spaces words = flat_map (λ w. 32 ∷ w) words

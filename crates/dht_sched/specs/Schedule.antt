@@ -1,8 +1,9 @@
 -- The lines of a schedule: the text of an event, and which events have a line.
-use Rattle.std.specs.Prelude.{ℕ, ◌≡◌, ◌≤◌, ◌<◌, if◌then◌else◌, ◌⊎◌, List, [], ◌∷◌, length, map, codes, decimal, All, Any, Contains, Result, Ok, Err}
+use Rattle.std.specs.Prelude.{ℕ, ◌≡◌, ◌≤◌, ◌<◌, if◌then◌else◌, ◌⊎◌, List, [], ◌∷◌, length, map, codes, decimal, All, Contains, Result, Ok, Err}
 use Rattle.dht_types.specs.Gfid.{root, same_gfid}
 use Rattle.dht_types.specs.Name.{IsName}
 use Rattle.dht_types.specs.Text.{gfid_text}
+use Rattle.dht_types.specs.Volume.{HasWeight}
 use Rattle.dht_types.specs.declared.identifiers.Gfid.{Gfid}
 use Rattle.dht_types.specs.declared.calls.Call.{Call}
 use Rattle.dht_types.specs.declared.calls.Call.TheVariants.{Lookup, Create}
@@ -28,10 +29,6 @@ schedule_words (Step c) = codes "step" ∷ decimal c ∷ []
 -- the one line of an event, without its newline
 abbrev pub schedule_text : Event → List ℕ
 schedule_text e = spaced (schedule_words e)
-
--- some brick has weight
-abbrev pub HasWeight : List ℕ → Type 0
-HasWeight w = Any (λ x. 0 < x) w
 
 -- the weights of a volume
 pub record IsScheduledVolume (w : List ℕ) : Type 0 where

@@ -61,26 +61,3 @@ pub fn print_range(
     let number = buffer.format(u64::from(brick.0));
     print_fields(out, number, &[Field::Value(value)])
 }
-
-#[cfg(test)]
-mod tests {
-    use super::*;
-    use std::test::Fail;
-
-    #[test]
-    fn hashes_and_ranges(rt: HostRuntime) -> Result<(), Fail> {
-        let mut out = Vec::new(rt.alloc());
-        print_hash(0x0234_5678, b"a b%\xff", &mut out)?;
-        print_hash(0xffff_ffff, b"", &mut out)?;
-        print_range(BrickNo(31), &None, &mut out)?;
-        let bytes: [u8; 16] = [
-            0, 0, 0, 0, 0, 0, 0, 0, 0, 0x41, 0x78, 0x74, 255, 255, 255, 255,
-        ];
-        let value = Bytes::new(Vec::from_slice(rt.alloc(), &bytes)?);
-        print_range(BrickNo(2), &Some(value), &mut out)?;
-        let wanted =
-            b"02345678 a%20b%25%ff\nffffffff %-\n31 -\n2 000000000000000000417874ffffffff\n";
-        assert_eq!(rt; out.as_slice(), wanted.as_slice());
-        Ok(())
-    }
-}

@@ -6,11 +6,11 @@ ghost use Rattle.dht_sched.specs.declared.fault.LineFault.TheVariants.{OutOfMemo
 use std::alloc::{AllocError, AllocFailed};
 
 /// Why a line of a schedule is not read.
-#[derive(Clone, Copy, Debug, PartialEq, Eq)]
+#[derive(Clone, Copy, PartialEq, Eq)]
 pub enum LineFault {
     /// The line is no event's.
     Malformed,
-    /// There was no memory for the event.
+    /// Memory ran out.
     OutOfMemory,
 }
 

@@ -19,7 +19,7 @@ use itoa::Buffer;
 use std::alloc::AllocError;
 
 /// A field of a line. Most are one word.
-#[derive(Clone, Copy, Debug)]
+#[derive(Clone, Copy)]
 pub enum Field<'a> {
     /// The word itself.
     Word(&'static str),
@@ -149,7 +149,8 @@ fn push_bytes(out: &mut Vec<u8>, bytes: &[u8]) -> Result<(), AllocError>
 
 /// Appends a word and a gfid, each behind a space.
 fn push_gfid(out: &mut Vec<u8>, word: &str, gfid: Gfid) -> Result<(), AllocError>
-    ensures { Appends out.old.items out.new.items result (behind_spaces (word.now ∷ gfid_text gfid ∷ [])) }
+    ensures { Appends out.old.items out.new.items result
+        (behind_spaces (word.now ∷ gfid_text gfid ∷ [])) }
 {
     push_word(out, word.as_bytes())?;
     push_word(out, &gfid.text())
@@ -157,7 +158,8 @@ fn push_gfid(out: &mut Vec<u8>, word: &str, gfid: Gfid) -> Result<(), AllocError
 
 /// Appends what a file at a name is, and the brick for which the name is marked, if it is.
 fn push_file(out: &mut Vec<u8>, file: Gfid, over: Option<BrickNo>) -> Result<(), AllocError>
-    ensures { Appends out.old.items out.new.items result (behind_spaces (main_words (Some (File file over)))) }
+    ensures { Appends out.old.items out.new.items result
+        (behind_spaces (main_words (Some (File file over)))) }
 {
     push_gfid(out, "data", file)?;
     match over {
@@ -271,7 +273,8 @@ fn push_field(out: &mut Vec<u8>, field: &Field<'_>) -> Result<(), AllocError>
 
 /// Appends a first word, the fields behind it, and a newline.
 fn push_fields(out: &mut Vec<u8>, first: &str, fields: &[Field<'_>]) -> Result<(), AllocError>
-    ensures { Appends out.old.items out.new.items result (text_of (first.now ∷ flat_map field_words fields.now)) }
+    ensures { Appends out.old.items out.new.items result
+        (text_of (first.now ∷ flat_map field_words fields.now)) }
 {
     out.extend_from_slice(first.as_bytes())?;
     for field in fields {
@@ -284,7 +287,8 @@ fn push_fields(out: &mut Vec<u8>, first: &str, fields: &[Field<'_>]) -> Result<(
 /// Prints the line of a first word and the fields behind it. Where memory runs out, the text stays
 /// as it was.
 pub fn print_fields(out: &mut Vec<u8>, first: &str, fields: &[Field<'_>]) -> Result<(), AllocError>
-    ensures ok { OnOk result (out.new.items ≡ out.old.items ++ text_of (first.now ∷ flat_map field_words fields.now)) }
+    ensures ok { OnOk result (out.new.items
+        ≡ out.old.items ++ text_of (first.now ∷ flat_map field_words fields.now)) }
     ensures err { OnErr result (out.new.items ≡ out.old.items) }
 {
     let before = out.len();

@@ -17,6 +17,3 @@ pub use dump::print_dump_line;
 pub use fault::LineFault;
 pub use schedule::{is_volume, one_line, read_line, read_weight};
 pub use transcript::{lines_follow, print_line, print_malformed, print_usage};
-
-#[cfg(test)]
-mod tests;

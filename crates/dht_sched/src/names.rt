@@ -56,7 +56,8 @@ fn digit_value(digit: u8) -> Option<u8>
 
 /// The byte that these digits behind a `%` spell. A byte that stands for itself has no such spelling.
 fn escaped(high: u8, low: u8) -> Option<u8>
-    ensures { Reads (λ b. hex_digit (b / 16) ∷ hex_digit (b % 16) ∷ []) (λ b. (b < 256) × (is_plain b ≡ false)) (high ∷ low ∷ []) result }
+    ensures { Reads (λ b. hex_digit (b / 16) ∷ hex_digit (b % 16) ∷ [])
+        (λ b. (b < 256) × (is_plain b ≡ false)) (high ∷ low ∷ []) result }
 {
     let byte = digit_value(high)? * 16 + digit_value(low)?;
     (!is_plain(byte)).then_some(byte)
@@ -66,7 +67,8 @@ fn escaped(high: u8, low: u8) -> Option<u8>
 fn first_byte(text: &[u8]) -> Option<(u8, &[u8])>
     ensures byte { IfSome result (λ x. x.0 < 256) }
     ensures found { IfSome result (λ x. text.now ≡ spelled_byte x.0 ++ x.1.now) }
-    ensures none { IfNone result ((b : ℕ) (rest : List ℕ) → b < 256 → text.now ≢ spelled_byte b ++ rest) }
+    ensures none { IfNone result ((b : ℕ) (rest : List ℕ) → b < 256
+        → text.now ≢ spelled_byte b ++ rest) }
 {
     let (first, rest) = text.split_first()?;
     if is_plain(*first) {

@@ -4,7 +4,8 @@ ghost use Rattle.std.specs.Prelude.{◌≡◌, ◌≢◌, ◌≤◌, ◌↔◌, 
 ghost use Rattle.dht_types.specs.Gfid.{root};
 ghost use Rattle.dht_types.specs.declared.events.Event.{Event};
 ghost use Rattle.dht_sched.specs.Reading.{Reads, ReadsUnless};
-ghost use Rattle.dht_sched.specs.Schedule.{directory_word, schedule_words, schedule_text, IsScheduled, IsReadOf, HasWeight, IsOneLine};
+ghost use Rattle.dht_types.specs.Volume.{HasWeight};
+ghost use Rattle.dht_sched.specs.Schedule.{directory_word, schedule_words, schedule_text, IsScheduled, IsReadOf, IsOneLine};
 ghost use Rattle.dht_sched.specs.Spelling.{words_of};
 
 use crate::fault::LineFault;
@@ -60,7 +61,7 @@ fn read_step(mut words: Words<'_>) -> Option<Event>
     Some(Event::Step(client))
 }
 
-/// The weight that a word spells in decimal, with no sign and no zero in front. There is none where
+/// The weight that a word spells in decimal, with no sign and no leading zero. There is none where
 /// the word is no number, or one above the greatest weight.
 pub fn read_weight(word: &[u8]) -> Option<u16>
     ensures { Reads decimal (λ weight. weight ≤ 1000) word.now result }
@@ -74,7 +75,8 @@ pub fn read_weight(word: &[u8]) -> Option<u16>
 
 /// A weight for each word.
 fn read_weights(alloc: Global, words: Words<'_>) -> Result<Weights, LineFault>
-    ensures { ReadsUnless (λ weights. map decimal weights) (All (λ weight. weight ≤ 1000)) words.entry result }
+    ensures { ReadsUnless (λ weights. map decimal weights) (All (λ weight. weight ≤ 1000))
+        words.entry result }
 {
     let mut weights = Vec::new(alloc);
     for word in words {
@@ -88,7 +90,8 @@ fn read_weights(alloc: Global, words: Words<'_>) -> Result<Weights, LineFault>
 
 /// Whether a volume may have these weights, of which none is too heavy.
 pub fn is_volume(weights: &[u16]) -> bool
-    ensures { IsTrue result ↔ ((1 ≤ length weights.now) × (length weights.now ≤ 32) × HasWeight weights.now) }
+    ensures { IsTrue result
+        ↔ ((1 ≤ length weights.now) × (length weights.now ≤ 32) × HasWeight weights.now) }
 {
     let bricks = weights.len();
     let is_heavy = weights.iter().any(|weight| *weight > 0);
@@ -115,7 +118,8 @@ fn read_volume(alloc: Global, mut words: Words<'_>) -> Result<Event, LineFault>
 /// The event of a line of these words.
 fn read_words(alloc: Global, mut words: Words<'_>) -> Result<Event, LineFault>
     ensures reads { ReadsUnless schedule_words IsScheduled words.entry result }
-    ensures memory { IsErrOf result LineFault.OutOfMemory → (rest : List (List ℕ)) × (words.entry ≡ codes "volume" ∷ rest) }
+    ensures memory { IsErrOf result LineFault.OutOfMemory
+        → (rest : List (List ℕ)) × (words.entry ≡ codes "volume" ∷ rest) }
 {
     let Some(kind) = words.next() else {
         return Err(LineFault::Malformed);
@@ -133,11 +137,14 @@ fn read_words(alloc: Global, mut words: Words<'_>) -> Result<Event, LineFault>
 pub fn read_line(alloc: Global, line: &[u8]) -> Result<Event, LineFault>
     ensures scheduled { IfOk result IsScheduled }
     ensures text { IfOk result (λ event. line.now ≡ schedule_text event) }
-    ensures malformed { IsErrOf result LineFault.Malformed → (event : Event) → IsScheduled event → line.now ≢ schedule_text event }
-    ensures memory { IsErrOf result LineFault.OutOfMemory → (rest : List (List ℕ)) × (words_of line.now ≡ codes "volume" ∷ rest) }
+    ensures malformed { IsErrOf result LineFault.Malformed → (event : Event) → IsScheduled event
+        → line.now ≢ schedule_text event }
+    ensures memory { IsErrOf result LineFault.OutOfMemory
+        → (rest : List (List ℕ)) × (words_of line.now ≡ codes "volume" ∷ rest) }
 
     // A line is of one event: that is what is read, whatever else is scheduled.
-    ensures only { (event : Event) → IsScheduled event → line.now ≡ schedule_text event → IsReadOf event result }
+    ensures only { (event : Event) → IsScheduled event → line.now ≡ schedule_text event
+        → IsReadOf event result }
 {
     read_words(alloc, Words::of(line))
 }

@@ -31,7 +31,8 @@ fn print_call(
     client: ClientNo,
     call: &Call,
 ) -> Result<(), AllocError>
-    ensures ok { OnOk result (out.new.items ≡ out.old.items ++ line_text (Called number client call.now)) }
+    ensures ok { OnOk result (out.new.items
+        ≡ out.old.items ++ line_text (Called number client call.now)) }
     ensures err { OnErr result (out.new.items ≡ out.old.items) }
 {
     let number = Field::Number(number.0);
@@ -59,7 +60,8 @@ fn print_step(
     kind: RequestKind,
     reply: ReplyKind,
 ) -> Result<(), AllocError>
-    ensures ok { OnOk result (out.new.items ≡ out.old.items ++ line_text (Stepped number client brick kind reply)) }
+    ensures ok { OnOk result (out.new.items
+        ≡ out.old.items ++ line_text (Stepped number client brick kind reply)) }
     ensures err { OnErr result (out.new.items ≡ out.old.items) }
 {
     let number = Field::Number(number.0);
@@ -100,7 +102,8 @@ fn print_answer(
     point: Option<u64>,
     answer: Answer,
 ) -> Result<(), AllocError>
-    ensures ok { OnOk result (out.new.items ≡ out.old.items ++ line_text (Answered number client point answer)) }
+    ensures ok { OnOk result (out.new.items
+        ≡ out.old.items ++ line_text (Answered number client point answer)) }
     ensures err { OnErr result (out.new.items ≡ out.old.items) }
 {
     let number = Field::Number(number.0);
@@ -183,6 +186,8 @@ pub fn print_usage(out: &mut Vec<u8>) -> Result<(), AllocError>
 
 /// The text of lines grows by the text of each: this is a law for callers, and does nothing.
 pub fn lines_follow()
-    ensures lines { (lines : List Line) (line : Line) → lines_text (lines ++ line ∷ []) ≡ lines_text lines ++ line_text line }
-    ensures dump { (lines : List DumpLine) (line : DumpLine) → dump_lines_text (lines ++ line ∷ []) ≡ dump_lines_text lines ++ dump_text line }
+    ensures lines { (lines : List Line) (line : Line)
+        → lines_text (lines ++ line ∷ []) ≡ lines_text lines ++ line_text line }
+    ensures dump { (lines : List DumpLine) (line : DumpLine)
+        → dump_lines_text (lines ++ line ∷ []) ≡ dump_lines_text lines ++ dump_text line }
 {}

@@ -66,7 +66,7 @@ impl<'a> Iterator for Words<'a> {
     }
 }
 
-/// The number that a word spells in decimal, as it is printed: with no sign and no zero in front.
+/// The number that a word spells in decimal, as it is printed: with no sign and no leading zero.
 pub fn number(word: &[u8]) -> Option<u64>
     ensures { Reads decimal (λ n. n < 2 ^ 64) word.now result }
 {

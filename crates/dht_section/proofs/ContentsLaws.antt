@@ -1,33 +1,20 @@
 -- What a change of one key leaves in a brick's maps.
-use Rattle.std.proofs.Common.{◌≡◌, ◌≢◌, ℕ, Bool, true, false, refl, ap, ◌∙◌, cond}
+use Rattle.std.proofs.Common.{◌≡◌, ◌≢◌, Bool, true, false, refl, ap, ◌∙◌, cond}
 use Rattle.std.specs.Prelude.{Some, None, [], unwrap_or}
-use Rattle.std.specs.FinMap.{FinMap, get, insert, get-insert}
-use Rattle.std.specs.Ordering.{nat_cmp, eq_by_cmp, is_eq}
-use Rattle.std.specs.Cmp.{IsTotalOrder, nat_cmp_total, on_total, then_total, eq_by_cmp_equiv}
-use Rattle.std.specs.Cmp.Lexicographic.{slice_cmp, nat_list_cmp_total}
+use Rattle.std.specs.FinMap.{FinMap, IsAntisymmetric, get, insert, get-insert}
+use Rattle.std.specs.Ordering.{eq_by_cmp, is_eq}
+use Rattle.std.specs.Cmp.{IsTotalOrder, eq_by_cmp_equiv}
 use Rattle.std.specs.declared.cmp.Ordering.{Ordering}
 use Rattle.std.specs.declared.cmp.Ordering.TheVariants.{Less, Equal, Greater}
-use Rattle.std.proofs.lemmas.Map.Lookups.{CmpEqualImpliesEq, exact_unsigned, exact_bytes, exact_pairs}
 use Rattle.dht_types.specs.Gfid.{Entry}
 use Rattle.dht_types.specs.declared.identifiers.Gfid.{Gfid}
 use Rattle.dht_types.specs.declared.stored.Main.TheVariants.{File}
 use Rattle.dht_types.specs.declared.stored.Slot.{Slot}
 use Rattle.dht_types.specs.declared.stored.Record.{Record}
 use Rattle.dht_types.specs.declared.stored.Record.TheVariants.{Live}
-use Rattle.dht_brick.specs.Contents.{Store, gfid_cmp, entry_cmp, slot, file, bare}
+use Rattle.dht_brick.specs.Contents.{Store, slot, file, bare}
 use Rattle.dht_brick.specs.Parts.{with_main, with_slot, with_file}
-
-pub gfid_total : IsTotalOrder gfid_cmp
-gfid_total = on_total (λ (g : Gfid). g.0) nat_cmp_total
-
-pub gfid_exact : CmpEqualImpliesEq gfid_cmp
-gfid_exact a b h = ap (λ (n : ℕ). let g : Gfid = record { 0 = n } in g) (exact_unsigned a.0 b.0 h)
-
-pub entry_total : IsTotalOrder entry_cmp
-entry_total = then_total (on_total (λ (e : Entry). e.0.0) nat_cmp_total) (on_total (λ (e : Entry). e.1) nat_list_cmp_total)
-
-pub entry_exact : CmpEqualImpliesEq entry_cmp
-entry_exact a b h = exact_pairs gfid_cmp (slice_cmp nat_cmp) gfid_exact exact_bytes a b h
+use Rattle.dht_brick.proofs.TableLemmas.{gfid_total, gfid_exact, entry_total, entry_exact}
 
 is_equal : (o : Ordering) → is_eq o ≡ true → o ≡ Equal
 is_equal Less h = absurd (let e : false ≡ true = h in cc)
@@ -38,12 +25,12 @@ is_equal Greater h = absurd (let e : false ≡ true = h in cc)
 pub get_at : {K X : Type 0} {R : K → K → Ordering} → IsTotalOrder R → (m : FinMap R X) (k : K) (v : X) → get (insert m k v) k ≡ Some v
 get_at {K} {X} {R} o m k v = get-insert o m k v k ∙ ap (λ b. cond b (Some v) (get m k)) ((eq_by_cmp_equiv o).refl k)
 
-off_by : {K X : Type 0} {R : K → K → Ordering} → CmpEqualImpliesEq R → (m : FinMap R X) (k : K) (v : X) (q : K) (b : Bool) → eq_by_cmp R q k ≡ b → q ≢ k → cond b (Some v) (get m q) ≡ get m q
+off_by : {K X : Type 0} {R : K → K → Ordering} → IsAntisymmetric R → (m : FinMap R X) (k : K) (v : X) (q : K) (b : Bool) → eq_by_cmp R q k ≡ b → q ≢ k → cond b (Some v) (get m q) ≡ get m q
 off_by {K} {X} {R} exact m k v q true e ne = absurd (ne (exact q k (is_equal (R q k) e)))
 off_by exact m k v q false e ne = refl
 
 -- the value at any other key
-pub get_off : {K X : Type 0} {R : K → K → Ordering} → IsTotalOrder R → CmpEqualImpliesEq R → (m : FinMap R X) (k : K) (v : X) (q : K) → q ≢ k → get (insert m k v) q ≡ get m q
+pub get_off : {K X : Type 0} {R : K → K → Ordering} → IsTotalOrder R → IsAntisymmetric R → (m : FinMap R X) (k : K) (v : X) (q : K) → q ≢ k → get (insert m k v) q ≡ get m q
 get_off {K} {X} {R} o exact m k v q ne = get-insert o m k v q ∙ off_by exact m k v q (eq_by_cmp R q k) refl ne
 
 -- a new, empty file, and the slot that is made for it

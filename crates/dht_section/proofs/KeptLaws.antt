@@ -8,7 +8,7 @@ use Rattle.dht_xattr.specs.Layout.{holder}
 use Rattle.dht_xattr.specs.Plan.{planned}
 use Rattle.dht_types.specs.Gfid.{Entry, root, home, call_of, same_gfid}
 use Rattle.dht_types.specs.Tree.{Tree, Node, IsFile, applied, Fits}
-use Rattle.dht_types.specs.Story.{Story, Running}
+use Rattle.dht_types.specs.History.{History, PendingCall}
 use Rattle.dht_types.specs.declared.identifiers.Gfid.{Gfid}
 use Rattle.dht_types.specs.declared.calls.TreeStep.TheVariants.{AddFile}
 use Rattle.dht_types.specs.declared.stored.DirRecord.{DirRecord}
@@ -27,7 +27,7 @@ use Rattle.dht_brick.specs.declared.requests.Request.TheVariants.{Lock, Unlock, 
 use Rattle.dht_brick.specs.declared.replies.Given.{Given}
 use Rattle.dht_brick.specs.declared.replies.Reply.{Reply}
 use Rattle.dht_brick.specs.declared.replies.Reply.TheVariants.{Ok as Carried, Refused as Declined, Wait, Down, Failed, NoMemory}
-use Rattle.dht_section.specs.Scene.{Disk, file_in, slot_at, name_at, file_at, plain, IsPlain, IsUnmoved, range_of, layout_of, holder_of, NameTruth, FileTruth, Stands, Placed, Kept, Scene, step_of, May, Changes}
+use Rattle.dht_section.specs.Scene.{Disk, file_in, slot_at, name_at, file_at, plain, IsPlain, IsUnmoved, range_of, layout_of, holder_of, NameTruth, FileTruth, Stands, Placed, OnlyFirstHolds, Kept, Scene, step_of, May, ChangesOneBrick}
 use Rattle.dht_section.specs.SectionLaws.{layout_same}
 use Rattle.dht_section.proofs.ContentsLaws.{added, new_file, new_slot, slot_at_new, slot_off_new, file_at_new, file_off_new}
 use Rattle.dht_section.proofs.SceneLaws.{IsQuiet, after_store, served_keeps, no_step}
@@ -114,17 +114,17 @@ file_frame d e g (Some bytes) n same h =
 same_layout : (d e : Disk) → SameDisk d e → (g : Gfid) → layout_of e g ≡ layout_of d g
 same_layout d e same g = layout_same d e g same.count (λ b. ap (λ (s : Store). range_of (dir s g)) (same.each b))
 
--- what a story keeps of another, but for its lines
-pub record SameTale (s t : Story) : Type 0 where
+-- what a history keeps of another, but for its lines
+pub record SameTale (s t : History) : Type 0 where
   pub tree : t.tree ≡ s.tree
   pub weights : t.weights ≡ s.weights
   pub calls : s.calls ≤ t.calls
   pub point : t.past t.size ≡ t.tree
-  pub fresh : (c : ℕ) (r : Running) → t.running c ≡ Some r → r.deeds ≡ None → (f : Gfid) → call_of f ≡ r.number.0 → s.tree.bytes f ≡ None
+  pub fresh : (c : ℕ) (r : PendingCall) → t.pending c ≡ Some r → r.deeds ≡ None → (f : Gfid) → call_of f ≡ r.number.0 → s.tree.bytes f ≡ None
 
 -- the invariant stays where directories, names and files do, and the tree
-pub kept_same : (d e : Disk) (s t : Story) → Kept d s → SameDisk d e → SameTale s t → Kept e t
-kept_same d e s t k same tale =
+pub kept_same : (d e : Disk) (s t : History) → Kept d s → SameDisk d e → SameTale s t → OnlyFirstHolds e → Kept e t
+kept_same d e s t k same tale sole =
     let n = same.count in
     let calls = tale.calls in
     let some = k.some_brick in
@@ -149,6 +149,7 @@ kept_same d e s t k same tale =
       point = tale.point;
       known = λ f h. (let l = k.known f (λ q. h (ap (λ (x : Tree). x.bytes f) tale.tree ∙ q)) in omega arith);
       fresh = λ c r e1 e2 f e3. ap (λ (x : Tree). x.bytes f) tale.tree ∙ tale.fresh c r e1 e2 f e3;
+      sole = sole;
     }
 
 -- the slot of a name that is a file's, and of one that is not
@@ -165,7 +166,7 @@ bare_by p h e = elim h [
 ]
 
 -- each file of the tree stands once, on its holder
-pub placed_of : (d : Disk) (s : Story) (e : Entry) (f : Gfid) → Kept d s → s.tree.names e ≡ Some (IsFile f) → Placed d e
+pub placed_of : (d : Disk) (s : History) (e : Entry) (f : Gfid) → Kept d s → s.tree.names e ≡ Some (IsFile f) → Placed d e
 placed_of d s e f k h =
     let truth : NameTruth d e (Some (IsFile f)) = subst (NameTruth d e) h (k.stands.names e) in
     let b = truth.0.0 in
@@ -188,7 +189,7 @@ pub record Makes (d e : Disk) (b : ℕ) (x : Entry) (f : Gfid) : Type 0 where
   pub there : b < d.count
   pub new : Contents
   pub stored : new.store ≡ added (d.brick b).store x f
-  pub changes : Changes d b new e
+  pub changes : ChangesOneBrick d b new e
 
 pub cases : {K : Type 0} (same : K → K → Bool) → ((p q : K) → ((same p q ≡ true → p ≡ q) × (p ≡ q → same p q ≡ true))) → (p q : K) (v : Bool) → same p q ≡ v → (p ≡ q) ⊎ (p ≢ q)
 cases same exact p q true e = inl ((exact p q).0 e)
@@ -200,14 +201,14 @@ entry_cases x y = cases same_entry exact_entry x y (same_entry x y) refl
 pub nat_cases : (x y : ℕ) → (x ≡ y) ⊎ (x ≢ y)
 nat_cases x y = cases nat_eq exact_nat x y (nat_eq x y) refl
 
-brick_at : (d e : Disk) (b : ℕ) (new : Contents) → Changes d b new e → e.brick b ≡ new
+brick_at : (d e : Disk) (b : ℕ) (new : Contents) → ChangesOneBrick d b new e → e.brick b ≡ new
 brick_at d e b new h = ap (λ (g : ℕ → Contents). g b) h.brick ∙ put_same nat_eq exact_nat d.brick b new
 
-brick_off : (d e : Disk) (b : ℕ) (new : Contents) (i : ℕ) → Changes d b new e → i ≢ b → e.brick i ≡ d.brick i
+brick_off : (d e : Disk) (b : ℕ) (new : Contents) (i : ℕ) → ChangesOneBrick d b new e → i ≢ b → e.brick i ≡ d.brick i
 brick_off d e b new i h ne = ap (λ (g : ℕ → Contents). g i) h.brick ∙ put_other nat_eq exact_nat d.brick b new i ne
 
 -- by cases on whether a brick is the one that changed
-brick_by : (P : Contents → Type 0) (d e : Disk) (b : ℕ) (new : Contents) (i : ℕ) → Changes d b new e → (i ≡ b → P new) → (i ≢ b → P (d.brick i)) → P (e.brick i)
+brick_by : (P : Contents → Type 0) (d e : Disk) (b : ℕ) (new : Contents) (i : ℕ) → ChangesOneBrick d b new e → (i ≡ b → P new) → (i ≢ b → P (d.brick i)) → P (e.brick i)
 brick_by P d e b new i h at_b off_b = subst P (sym (ap (λ (g : ℕ → Contents). g i) h.brick)) (put_elim P nat_eq exact_nat d.brick b new i at_b off_b)
 
 some_new : (d e : Disk) (b : ℕ) (x : Entry) (f : Gfid) → Makes d e b x f → slot_at e b x ≡ new_slot (d.brick b).store x f
@@ -263,14 +264,14 @@ new_bytes d e b x f h none =
     let l = h.there in
     ((b, omega arith, (new_file, record_new d e b x f h)), λ i r l2 k. ap bytes_of (only_record d e b x f i r h none (omega arith) k))
 
--- what a story keeps of another, but for its lines and a new file
-pub record NewTale (s t : Story) (d : Gfid) (n : List ℕ) (f : Gfid) : Type 0 where
+-- what a history keeps of another, but for its lines and a new file
+pub record NewTale (s t : History) (d : Gfid) (n : List ℕ) (f : Gfid) : Type 0 where
   pub tree : t.tree ≡ applied (AddFile d n f) s.tree
   pub weights : t.weights ≡ s.weights
   pub calls : s.calls ≤ t.calls
   pub own : call_of f ≤ t.calls
   pub point : t.past t.size ≡ t.tree
-  pub fresh : (c : ℕ) (r : Running) → t.running c ≡ Some r → r.deeds ≡ None → (g : Gfid) → call_of g ≡ r.number.0 → (s.tree.bytes g ≡ None) × (g ≢ f)
+  pub fresh : (c : ℕ) (r : PendingCall) → t.pending c ≡ Some r → r.deeds ≡ None → (g : Gfid) → call_of g ≡ r.number.0 → (s.tree.bytes g ≡ None) × (g ≢ f)
 
 one_new : (d e : Disk) (b : ℕ) (x : Entry) (f : Gfid) (y : Entry) (i j : ℕ) (m o : Gfid) → Makes d e b x f → NameTruth d x None → (i < d.count) → (j < d.count) → ((m o : Gfid) → name_at d i y ≡ Some m → name_at d j y ≡ Some o → i ≡ j) → name_at e i y ≡ Some m → name_at e j y ≡ Some o → i ≡ j
 one_new d e b x f y i j m o h none li lj old hi hj = elim (entry_cases y x) [
@@ -332,8 +333,8 @@ unmoved_new d e b x f z i r h none old l q =
     ]
 
 -- the invariant stays where a brick makes the file that the tree then has
-pub kept_new : (d e : Disk) (s t : Story) (b : ℕ) (g : Gfid) (n : List ℕ) (f : Gfid) → Kept d s → Makes d e b (g, n) f → holder_of d (g, n) ≡ Some b → Fits (AddFile g n f) s.tree → NewTale s t g n f → Kept e t
-kept_new d e s t b g n f k h holds fits tale =
+pub kept_new : (d e : Disk) (s t : History) (b : ℕ) (g : Gfid) (n : List ℕ) (f : Gfid) → Kept d s → Makes d e b (g, n) f → holder_of d (g, n) ≡ Some b → Fits (AddFile g n f) s.tree → NewTale s t g n f → OnlyFirstHolds e → Kept e t
+kept_new d e s t b g n f k h holds fits tale sole =
     let count = h.changes.count in
     let some = k.some_brick in
     let few = k.few in
@@ -365,6 +366,7 @@ kept_new d e s t b g n f k h holds fits tale =
       point = tale.point;
       known = λ z p. known_by z (s.tree.bytes z) refl p;
       fresh = λ c r e1 e2 z e3. (let a = tale.fresh c r e1 e2 z e3 in ap (λ (x : Tree). x.bytes z) tale.tree ∙ (put_other same_gfid exact_gfid s.tree.bytes f (Some []) z a.1 ∙ a.0));
+      sole = sole;
     }
   where
     known_by : (z : Gfid) (o : Option (List ℕ)) → s.tree.bytes z ≡ o → t.tree.bytes z ≢ None → call_of z ≤ t.calls

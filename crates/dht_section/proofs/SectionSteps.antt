@@ -18,7 +18,7 @@ use Rattle.dht_brick.specs.declared.replies.Given.TheVariants as given
 use Rattle.dht_brick.specs.declared.requests.NameRequest.TheVariants.{Look}
 use Rattle.dht_brick.specs.declared.requests.Request.TheVariants.{OnNames}
 use Rattle.dht_brick.specs.declared.replies.Reply.{Reply}
-use Rattle.dht_brick.specs.declared.machines.Ask.{Ask}
+use Rattle.dht_section.specs.declared.machine.Ask.{Ask}
 use Rattle.dht_xattr.specs.declared.range.Range.{Range}
 use Rattle.dht_section.specs.Replies.{is_no_memory, file_shown, range_shown}
 use Rattle.dht_section.specs.Scene.{Disk, file_in, name_at, range_of, range_at, ranges_below, NameTruth, Scene, Sound, Moved}
@@ -44,7 +44,7 @@ fresh_moved l s t a r q h m = record { place = place_moved l s t a r h.place m; 
 directory_step : (l : Location) (s t : Scene) (r : Reply) → Sound s → is_no_memory r ≡ false → IsFresh l s → Moved s (section_asks (LockingDirectory l)) r t → LockingKnows l t
 directory_step l s t r sound n h m = record {
   fresh = fresh_moved l s t _ r tt h m;
-  directory = lock_taken s t (lock_brick l) l.directory (directory_key l) Shared r (lock_brick_is l s sound h.place) n m;
+  directory = lock_taken s t (lock_brick l) l.directory (directory_key l) Shared r sound (lock_brick_is l s sound h.place) n m;
 }
 
 name_step : (l : Location) (s t : Scene) (r : Reply) → Sound s → Sound t → is_no_memory r ≡ false → LockingKnows l s → Moved s (section_asks (LockingName l)) r t → LookingKnows l (record { 0 = 0 }) nothing_seen t
@@ -57,7 +57,7 @@ name_step l s t r sound after n h m =
       fresh = fresh;
       locked = record {
         directory = lock_moved s t _ r m l.directory (directory_key l) (Some Shared) refl h.directory;
-        name = lock_taken s t (lock_brick l) l.directory (name_key l) Exclusive r (lock_brick_is l s sound h.fresh.place) n m;
+        name = lock_taken s t (lock_brick l) l.directory (name_key l) Exclusive r sound (lock_brick_is l s sound h.fresh.place) n m;
       };
       within = omega arith;
       truth = λ b k. absurd (omega arith);
@@ -72,8 +72,8 @@ in_dir_there (Some x) outcome h = refl
 pub root_there : (s : Scene) (g : Gfid) (b : ℕ) → Sound s → g ≡ root → b < s.disk.count → is_some (dir (s.disk.brick b).store g) ≡ true
 root_there s g b sound e l = sound.kept.roots b g l ∙ ap (λ x. same_gfid x root) e
 
-pub root_in_tree : (s : Scene) (g : Gfid) → Sound s → g ≡ root → s.story.tree.dirs g ≡ true
-root_in_tree s g sound e = ap s.story.tree.dirs e ∙ (sound.kept.stands.dirs root ∙ root_there s root 0 sound refl sound.kept.some_brick)
+pub root_in_tree : (s : Scene) (g : Gfid) → Sound s → g ≡ root → s.history.tree.dirs g ≡ true
+root_in_tree s g sound e = ap s.history.tree.dirs e ∙ (sound.kept.stands.dirs root ∙ root_there s root 0 sound refl sound.kept.some_brick)
 
 -- a look at a name of the root shows the slot, and the range of the directory
 abbrev look_reply : Option DirRecord → Contents → Entry → Reply
@@ -165,15 +165,15 @@ node_some : (d : Disk) (x : Entry) (o : Option Node) (b : ℕ) (f : Gfid) → Na
 node_some d x None b f h l e = absurd (let k : None ≡ Some f = sym (h b l) ∙ e in cc)
 node_some d x (Some (IsFile g)) b f h l e = let k : f ≡ g = h.1 b f l e in cc
 
-pub node_is : (s : Scene) (x : Entry) (found : Option Place) → Sound s → Truth s.disk x s.disk.count found → s.story.tree.names x ≡ node_of found
-node_is s x None sound h = node_none s.disk x (s.story.tree.names x) (sound.kept.stands.names x) h
-node_is s x (Some p) sound h = node_some s.disk x (s.story.tree.names x) p.brick.0 p.file (sound.kept.stands.names x) h.0 h.1
+pub node_is : (s : Scene) (x : Entry) (found : Option Place) → Sound s → Truth s.disk x s.disk.count found → s.history.tree.names x ≡ node_of found
+node_is s x None sound h = node_none s.disk x (s.history.tree.names x) (sound.kept.stands.names x) h
+node_is s x (Some p) sound h = node_some s.disk x (s.history.tree.names x) p.brick.0 p.file (sound.kept.stands.names x) h.0 h.1
 
 -- what is seen of a name of the root at the line that was just written
-pub saw_now : (l : Location) (found : Option Place) (at : ℕ) (s : Scene) → Sound s → l.directory ≡ root → at ≡ s.story.size → s.story.tree.names (entry_at l) ≡ node_of found → SawAt l found at s
+pub saw_now : (l : Location) (found : Option Place) (at : ℕ) (s : Scene) → Sound s → l.directory ≡ root → at ≡ s.history.size → s.history.tree.names (entry_at l) ≡ node_of found → SawAt l found at s
 saw_now l found at s sound g e h =
     let begun = sound.begun in
-    let now : s.story.past at ≡ s.story.tree = ap s.story.past e ∙ sound.kept.point in
+    let now : s.history.past at ≡ s.history.tree = ap s.history.past e ∙ sound.kept.point in
     record {
       after = omega arith;
       before = omega arith;
@@ -181,7 +181,7 @@ saw_now l found at s sound g e h =
       node = ap (λ (p : Tree). p.names (entry_at l)) now ∙ h;
     }
 
-last_step : (l : Location) (b : BrickNo) (x : Seen) (at : ℕ) (s t : Scene) (r : Reply) → Sound s → Sound t → is_no_memory r ≡ false → l.bricks ≤ b.0 + 1 → at ≡ t.story.size → LookingKnows l b x s → Moved s (section_asks (Looking l b x)) r t → HoldsName (record { location = l; found = found_then x.place b (file_shown r); layout = lengthened x.layout (range_shown r); at = at }) t
+last_step : (l : Location) (b : BrickNo) (x : Seen) (at : ℕ) (s t : Scene) (r : Reply) → Sound s → Sound t → is_no_memory r ≡ false → l.bricks ≤ b.0 + 1 → at ≡ t.history.size → LookingKnows l b x s → Moved s (section_asks (Looking l b x)) r t → HoldsName (record { location = l; found = found_then x.place b (file_shown r); layout = lengthened x.layout (range_shown r); at = at }) t
 last_step l b x at s t r sound after z k e h m =
     let found = found_then x.place b (file_shown r) in
     let fresh = fresh_moved l s t _ r tt h.fresh m in
@@ -232,7 +232,7 @@ take_name m l new r s t e z f sound after h mv = (rw f (name_step l s t r sound 
 pub take_look : (m : Section) (l : Location) (b : BrickNo) (x new : Seen) (next : ℕ) (r : Reply) (s t : Scene) → m ≡ Looking l b x → is_no_memory r ≡ false → new ≡ seen x b r → next ≡ b.0 + 1 → next < l.bricks → Sound s → SectionKnows m s → Moved s (section_asks m) r t → LookingKnows l (record { 0 = next }) new t × (l.bricks - next < section_left m)
 take_look m l b x new next r s t e z f n k sound h mv = (rw f (look_step l b x next s t r sound z n k (rw e at h) (rw e at mv)), rw e (omega arith))
 
-pub take_last : (m : Section) (l : Location) (b : BrickNo) (x new : Seen) (at : ℕ) (r : Reply) (s t : Scene) → m ≡ Looking l b x → is_no_memory r ≡ false → new ≡ seen x b r → l.bricks ≤ b.0 + 1 → at ≡ t.story.size → Sound s → Sound t → SectionKnows m s → Moved s (section_asks m) r t → HoldsName (record { location = l; found = new.place; layout = new.layout; at = at }) t
+pub take_last : (m : Section) (l : Location) (b : BrickNo) (x new : Seen) (at : ℕ) (r : Reply) (s t : Scene) → m ≡ Looking l b x → is_no_memory r ≡ false → new ≡ seen x b r → l.bricks ≤ b.0 + 1 → at ≡ t.history.size → Sound s → Sound t → SectionKnows m s → Moved s (section_asks m) r t → HoldsName (record { location = l; found = new.place; layout = new.layout; at = at }) t
 take_last m l b x new at r s t e z f k a sound after h mv = rw f (last_step l b x at s t r sound after z k a (rw e at h) (rw e at mv))
 
 -- a section sends another request, and a closing at most two

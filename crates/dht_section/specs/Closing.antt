@@ -1,20 +1,22 @@
 -- What a closing asks and knows.
-use Rattle.std.specs.Prelude.{ℕ, None, List, [], ◌∷◌}
+use Rattle.std.specs.Prelude.{ℕ, ◌≡◌, None, List, [], ◌∷◌}
 use Rattle.dht_types.specs.declared.locks.Key.{Key}
 use Rattle.dht_types.specs.declared.errors.Errno.TheVariants.{Enomem}
 use Rattle.dht_types.specs.declared.calls.Answer.TheVariants.{Fault}
 use Rattle.dht_brick.specs.declared.requests.Request.TheVariants.{Unlock}
-use Rattle.dht_brick.specs.declared.machines.Ask.{Ask}
-use Rattle.dht_brick.specs.declared.machines.Finish.{Finish}
+use Rattle.dht_section.specs.declared.machine.Ask.{Ask}
+use Rattle.dht_section.specs.declared.machine.Finish.{Finish}
+use Rattle.dht_section.specs.declared.machine.Turn.{Turn}
+use Rattle.dht_section.specs.Turns.{MatchTurn}
 use Rattle.dht_section.specs.Scene.{Scene, Earned}
 use Rattle.dht_section.specs.Section.{HasPlace, lock_brick, directory_key, name_key, both_locks}
 use Rattle.dht_section.specs.declared.section.Location.{Location}
 use Rattle.dht_section.specs.declared.closing.Closing.{Closing}
 use Rattle.dht_section.specs.declared.closing.Closing.TheVariants.{UnlockingName, UnlockingDirectory}
 
--- the answer of a call that was stopped by want of memory
-abbrev pub want_of_memory : Finish
-want_of_memory = record { answer = Fault Enomem; at = None }
+-- the answer of a call that was stopped by memory that ran out
+abbrev pub out_of_memory : Finish
+out_of_memory = record { answer = Fault Enomem; at = None }
 
 abbrev pub closing_asks : Closing → Ask
 closing_asks (UnlockingName l f) = record { brick = record { 0 = lock_brick l }; request = Unlock (name_key l) }
@@ -43,3 +45,7 @@ closing_finish (UnlockingDirectory l f) = f
 pub record ClosingKnows (c : Closing) (s : Scene) : Type 0 where
   pub place : HasPlace (closing_location c) s
   pub earned : Earned (closing_finish c) s
+
+-- it goes on with the same answer, or gives it
+abbrev pub KeepsFinish : Closing → Turn Closing Finish → Type 0
+KeepsFinish m turn = MatchTurn turn (λ n. closing_finish n ≡ closing_finish m) (λ f. f ≡ closing_finish m)

@@ -1,10 +1,10 @@
--- What a machine's knowledge speaks of: all bricks, the story so far, and the machine's own call. What the bricks stand for, what a machine may ask, what its request changes, and what the requests of others may change.
+-- What a machine's knowledge speaks of: all bricks, the history so far, and the machine's own call. What the bricks stand for, what a machine may ask, what its request changes, and what the requests of others may change.
 use Rattle.std.specs.Prelude.{ℕ, zero, suc, ◌<◌, ◌≤◌, ◌≡◌, ◌≢◌, ◌⊎◌, nat_eq, is_some, true, Option, Some, None, List, [], ◌∷◌, ◌++◌, length, Any}
 use Rattle.dht_types.specs.Put.{put}
 use Rattle.dht_types.specs.Gfid.{Entry, root, home, anchor, call_of, same_gfid}
 use Rattle.dht_types.specs.Tree.{Tree, Node, IsFile, applied, Fits}
 use Rattle.dht_types.specs.Volume.{replay_names}
-use Rattle.dht_types.specs.Story.{Story, Running, Deeds, Answers, IsNext, IsOwn, deeds_after, made_in}
+use Rattle.dht_types.specs.History.{History, PendingCall, Deeds, Answers, IsNext, IsOwn, deeds_after, made_in}
 use Rattle.dht_types.specs.declared.identifiers.Gfid.{Gfid}
 use Rattle.dht_types.specs.declared.identifiers.ClientNo.{ClientNo}
 use Rattle.dht_types.specs.declared.calls.TreeStep.{TreeStep}
@@ -34,8 +34,8 @@ use Rattle.dht_brick.specs.declared.requests.Request.{Request}
 use Rattle.dht_brick.specs.declared.requests.Request.TheVariants.{Lock, Unlock, OnNames}
 use Rattle.dht_brick.specs.declared.replies.Reply.{Reply}
 use Rattle.dht_brick.specs.declared.replies.Reply.TheVariants.{Ok as Carried}
-use Rattle.dht_brick.specs.declared.machines.Ask.{Ask}
-use Rattle.dht_brick.specs.declared.machines.Finish.{Finish}
+use Rattle.dht_section.specs.declared.machine.Ask.{Ask}
+use Rattle.dht_section.specs.declared.machine.Finish.{Finish}
 
 -- all bricks
 pub record Disk : Type 0 where
@@ -128,8 +128,12 @@ pub record Placed (d : Disk) (e : Entry) : Type 0 where
   pub recorded : is_some (file_at d brick file) ≡ true
   pub alone : (b : ℕ) → b < d.count → b ≢ brick → slot_at d b e ≡ bare
 
--- what holds of bricks and story between any two requests, whoever asks: the invariant of the volume
-pub record Kept (d : Disk) (s : Story) : Type 0 where
+-- no client but the first holds a lock
+abbrev pub OnlyFirstHolds : Disk → Type 0
+OnlyFirstHolds d = (b c : ℕ) (k : Key) → c ≢ 0 → (d.brick b).locks k c ≡ None
+
+-- what holds of bricks and history between any two requests, whoever asks: the invariant of the volume
+pub record Kept (d : Disk) (s : History) : Type 0 where
   pub stands : Stands d s.tree
   pub one : (e : Entry) (b i : ℕ) (f g : Gfid) → b < d.count → i < d.count → name_at d b e ≡ Some f → name_at d i e ≡ Some g → b ≡ i
   pub roots : (b : ℕ) (g : Gfid) → b < d.count → is_some (dir (d.brick b).store g) ≡ same_gfid g root
@@ -148,20 +152,23 @@ pub record Kept (d : Disk) (s : Story) : Type 0 where
   pub point : s.past s.size ≡ s.tree
   -- each file was made by a call that was accepted, and by none that has done nothing yet
   pub known : (f : Gfid) → s.tree.bytes f ≢ None → call_of f ≤ s.calls
-  pub fresh : (c : ℕ) (r : Running) → s.running c ≡ Some r → r.deeds ≡ None → (f : Gfid) → call_of f ≡ r.number.0 → s.tree.bytes f ≡ None
+  pub fresh : (c : ℕ) (r : PendingCall) → s.pending c ≡ Some r → r.deeds ≡ None → (f : Gfid) → call_of f ≡ r.number.0 → s.tree.bytes f ≡ None
+  -- no other client has asked for a lock, so that the first is never told to wait
+  pub sole : OnlyFirstHolds d
 
--- what a client's machine may speak of: all bricks, the story, who it is, and its own call
+-- what a client's machine may speak of: all bricks, the history, who it is, and its own call
 pub record Scene : Type 0 where
   pub disk : Disk
-  pub story : Story
+  pub history : History
   pub who : ClientNo
-  pub mine : Running
+  pub mine : PendingCall
 
--- the invariant holds, and the call is running
+-- the invariant holds, and the call is running, which is the first client's
 pub record Sound (s : Scene) : Type 0 where
-  pub kept : Kept s.disk s.story
-  pub runs : s.story.running s.who.0 ≡ Some s.mine
-  pub begun : s.mine.since ≤ s.story.size
+  pub kept : Kept s.disk s.history
+  pub first : s.who.0 ≡ 0
+  pub runs : s.history.pending s.who.0 ≡ Some s.mine
+  pub begun : s.mine.since ≤ s.history.size
 
 -- the step of the tree that a carried-out request stands for
 abbrev pub name_step : NameRequest → Option TreeStep
@@ -178,9 +185,9 @@ step_of q r = None
 
 -- the step is the next that my call is to do, it can be done, and what it makes is this call's own
 pub record Wants (s : Scene) (step : TreeStep) : Type 0 where
-  pub next : IsNext s.story.tree s.mine.call s.mine.deeds step
-  pub fits : Fits step s.story.tree
-  pub own : IsOwn s.story.run s.who s.mine.number (made_in step)
+  pub next : IsNext s.history.tree s.mine.call s.mine.deeds step
+  pub fits : Fits step s.history.tree
+  pub own : IsOwn s.history.run s.who s.mine.number (made_in step)
 
 -- what must hold when a request about names is sent to a brick; no program sends any but these. Create: under the lock of the name, to the name's holder, where no brick has the name yet
 abbrev pub MayName : Scene → ℕ → NameRequest → Type 0
@@ -214,48 +221,48 @@ tree_by (Some step) t = applied step t
 -- the call's tree lines with that of a step, at this line, or as they were
 abbrev pub deeds_by : Scene → ℕ → Option TreeStep → Option Deeds
 deeds_by s line None = s.mine.deeds
-deeds_by s line (Some step) = Some (deeds_after s.story.tree line s.mine.call s.mine.deeds step)
+deeds_by s line (Some step) = Some (deeds_after s.history.tree line s.mine.call s.mine.deeds step)
 
 -- one brick changed, and the others did not
-pub record Changes (d : Disk) (b : ℕ) (new : Contents) (e : Disk) : Type 0 where
+pub record ChangesOneBrick (d : Disk) (b : ℕ) (new : Contents) (e : Disk) : Type 0 where
   pub count : e.count ≡ d.count
   pub brick : e.brick ≡ put nat_eq d.brick b new
 
 -- what my request comes to: the bricks know a replay's volume
 abbrev pub outcome_of : Scene → Ask → Outcome Contents
-outcome_of s a = row (replay_names (length s.story.weights)) s.who s.mine.number a.request (s.disk.brick a.brick.0)
+outcome_of s a = row (replay_names (length s.history.weights)) s.who s.mine.number a.request (s.disk.brick a.brick.0)
 
--- my request was served with this reply, by its row or for want of memory, and its lines were written
+-- my request was served with this reply, by its row or memory ran out, and its lines were written
 pub record Moved (s : Scene) (a : Ask) (r : Reply) (t : Scene) : Type 0 where
   pub new : Contents
   pub served : Serves (outcome_of s a) (s.disk.brick a.brick.0) r new
-  pub disk : Changes s.disk a.brick.0 new t.disk
+  pub disk : ChangesOneBrick s.disk a.brick.0 new t.disk
   pub who : t.who ≡ s.who
   pub number : t.mine.number ≡ s.mine.number
   pub call : t.mine.call ≡ s.mine.call
   pub since : t.mine.since ≡ s.mine.since
-  pub deeds : t.mine.deeds ≡ deeds_by s t.story.size (step_of a.request r)
-  pub tree : t.story.tree ≡ tree_by (step_of a.request r) s.story.tree
-  pub run : t.story.run ≡ s.story.run
-  pub weights : t.story.weights ≡ s.story.weights
-  pub later : s.story.size ≤ t.story.size
-  pub past : (j : ℕ) → j ≤ s.story.size → t.story.past j ≡ s.story.past j
+  pub deeds : t.mine.deeds ≡ deeds_by s t.history.size (step_of a.request r)
+  pub tree : t.history.tree ≡ tree_by (step_of a.request r) s.history.tree
+  pub run : t.history.run ≡ s.history.run
+  pub weights : t.history.weights ≡ s.history.weights
+  pub later : s.history.size ≤ t.history.size
+  pub past : (j : ℕ) → j ≤ s.history.size → t.history.past j ≡ s.history.past j
 
 -- what all others together may do between two requests of mine: each name whose lock I hold alone is kept, on the bricks and in the tree, and so is each lock that I hold; the ranges of directories stay
 pub record Others (s t : Scene) : Type 0 where
   pub who : t.who ≡ s.who
   pub mine : t.mine ≡ s.mine
   pub count : t.disk.count ≡ s.disk.count
-  pub run : t.story.run ≡ s.story.run
-  pub weights : t.story.weights ≡ s.story.weights
+  pub run : t.history.run ≡ s.history.run
+  pub weights : t.history.weights ≡ s.history.weights
   pub locks : (g : Gfid) (key : Key) (mode : Mode) → lock_at s.disk g key s.who ≡ Some mode → lock_at t.disk g key s.who ≡ Some mode
   pub slots : (g : Gfid) (n : List ℕ) → lock_at s.disk g (Name g n) s.who ≡ Some Exclusive → (b : ℕ) → slot_at t.disk b (g, n) ≡ slot_at s.disk b (g, n)
-  pub names : (g : Gfid) (n : List ℕ) → lock_at s.disk g (Name g n) s.who ≡ Some Exclusive → t.story.tree.names (g, n) ≡ s.story.tree.names (g, n)
-  pub dirs : (g : Gfid) → t.story.tree.dirs g ≡ s.story.tree.dirs g
+  pub names : (g : Gfid) (n : List ℕ) → lock_at s.disk g (Name g n) s.who ≡ Some Exclusive → t.history.tree.names (g, n) ≡ s.history.tree.names (g, n)
+  pub dirs : (g : Gfid) → t.history.tree.dirs g ≡ s.history.tree.dirs g
   pub ranges : (g : Gfid) (b : ℕ) → range_at t.disk g b ≡ range_at s.disk g b
-  pub later : s.story.size ≤ t.story.size
-  pub past : (j : ℕ) → j ≤ s.story.size → t.story.past j ≡ s.story.past j
+  pub later : s.history.size ≤ t.history.size
+  pub past : (j : ℕ) → j ≤ s.history.size → t.history.past j ≡ s.history.past j
 
 -- the call may answer so now
 abbrev pub Earned : Finish → Scene → Type 0
-Earned f s = Answers s.story s.mine f.at f.answer
+Earned f s = Answers s.history s.mine f.at f.answer

@@ -14,7 +14,9 @@ use Rattle.dht_brick.specs.declared.requests.NameRequest.TheVariants.{Look}
 use Rattle.dht_brick.specs.declared.requests.Request.{Request}
 use Rattle.dht_brick.specs.declared.requests.Request.TheVariants.{Lock, Unlock, OnNames}
 use Rattle.dht_brick.specs.declared.replies.Reply.{Reply}
-use Rattle.dht_brick.specs.declared.machines.Ask.{Ask}
+use Rattle.dht_section.specs.declared.machine.Ask.{Ask}
+use Rattle.dht_section.specs.declared.machine.Turn.{Turn}
+use Rattle.dht_section.specs.Turns.{MatchTurn}
 use Rattle.dht_section.specs.Replies.{is_no_memory, file_shown, range_shown}
 use Rattle.dht_section.specs.Scene.{Disk, name_at, lock_at, ranges_below, layout_of, Scene}
 use Rattle.dht_section.specs.declared.section.Location.{Location}
@@ -25,8 +27,8 @@ use Rattle.dht_section.specs.declared.section.Section.TheVariants.{LockingDirect
 use Rattle.dht_section.specs.declared.section.Held.{Held}
 use Rattle.dht_section.specs.declared.section.Stopped.{Stopped}
 use Rattle.dht_section.specs.declared.section.Stopped.TheVariants.{Directory, Both}
-use Rattle.dht_section.specs.declared.section.Outcome.{Outcome}
-use Rattle.dht_section.specs.declared.section.Outcome.TheVariants.{Held as Holding, Stopped as Stopping}
+use Rattle.dht_section.specs.declared.section.SectionOutcome.{SectionOutcome}
+use Rattle.dht_section.specs.declared.section.SectionOutcome.TheVariants.{Held as Holding, Stopped as Stopping}
 
 -- the name in its directory
 abbrev pub entry_at : Location → Entry
@@ -73,7 +75,7 @@ abbrev pub stopped_locks : Stopped → List Key
 stopped_locks (Directory l) = directory_key l ∷ []
 stopped_locks (Both l) = both_locks l
 
-abbrev pub outcome_locks : Outcome → List Key
+abbrev pub outcome_locks : SectionOutcome → List Key
 outcome_locks (Holding h) = both_locks h.location
 outcome_locks (Stopping x) = stopped_locks x
 
@@ -82,6 +84,10 @@ abbrev pub LocksBy : Request → List Key → List Key → Type 0
 LocksBy (Lock key mode) old new = new ≡ key ∷ old
 LocksBy (Unlock key) old new = old ≡ key ∷ new
 LocksBy q old new = new ≡ old
+
+-- so do the locks of a machine at a turn, or of what it hands out
+abbrev pub LocksFollow : {M D : Type 0} → (M → List Key) → (D → List Key) → M → Request → Turn M D → Type 0
+LocksFollow locks kept m q turn = MatchTurn turn (λ n. LocksBy q (locks m) (locks n)) (λ d. LocksBy q (locks m) (kept d))
 
 -- what was found after a look at one more brick
 abbrev pub found_then : Option Place → BrickNo → Option Gfid → Option Place
@@ -122,7 +128,7 @@ node_of (Some p) = Some (IsFile p.file)
 
 -- the name is in the root of a volume of so many bricks
 pub record HasPlace (l : Location) (s : Scene) : Type 0 where
-  pub bricks : length s.story.weights ≡ l.bricks
+  pub bricks : length s.history.weights ≡ l.bricks
   pub root : l.directory ≡ root
 
 -- and the call has done no step
@@ -154,9 +160,9 @@ SectionKnows (Looking l b x) s = LookingKnows l b x s
 -- at this line the tree has this at the name, and the call was running
 pub record SawAt (l : Location) (found : Option Place) (at : ℕ) (s : Scene) : Type 0 where
   pub after : s.mine.since ≤ at
-  pub before : at ≤ s.story.size
-  pub directory : (s.story.past at).dirs l.directory ≡ true
-  pub node : (s.story.past at).names (entry_at l) ≡ node_of found
+  pub before : at ≤ s.history.size
+  pub directory : (s.history.past at).dirs l.directory ≡ true
+  pub node : (s.history.past at).names (entry_at l) ≡ node_of found
 
 -- both locks are held, what was found is all there is, now and at the last look's line, and the layout is the directory's
 pub record HoldsName (h : Held) (s : Scene) : Type 0 where
@@ -176,14 +182,22 @@ section_stopped (LockingDirectory l) = Directory l
 section_stopped (LockingName l) = Both l
 section_stopped (Looking l b x) = Both l
 
-abbrev pub outcome_location : Outcome → Location
+abbrev pub outcome_location : SectionOutcome → Location
 outcome_location (Holding h) = h.location
 outcome_location (Stopping x) = stopped_location x
 
-abbrev pub is_stopped : Outcome → Bool
+abbrev pub is_stopped : SectionOutcome → Bool
 is_stopped (Holding h) = false
 is_stopped (Stopping x) = true
 
-abbrev pub OutcomeFact : Outcome → Scene → Type 0
+abbrev pub OutcomeFact : SectionOutcome → Scene → Type 0
 OutcomeFact (Holding h) s = HoldsName h s
 OutcomeFact (Stopping x) s = HasPlace (stopped_location x) s
+
+-- the section is of the same name after a turn
+abbrev pub KeepsLocation : Section → Turn Section SectionOutcome → Type 0
+KeepsLocation m turn = MatchTurn turn (λ n. section_location n ≡ section_location m) (λ d. outcome_location d ≡ section_location m)
+
+-- it is stopped exactly where memory ran out
+abbrev pub StopsByMemory : Reply → Turn Section SectionOutcome → Type 0
+StopsByMemory r turn = MatchTurn turn (λ n. is_no_memory r ≡ false) (λ d. is_stopped d ≡ is_no_memory r)

@@ -4,7 +4,7 @@ use Rattle.std.specs.Prelude.{zero, suc, Option, Some, None, [], ◌∷◌, ◌+
 use Rattle.std.proofs.lemmas.Bool.Decides.{nat_tests}
 use Rattle.dht_types.specs.Gfid.{Entry, anchor}
 use Rattle.dht_types.specs.Tree.{Tree}
-use Rattle.dht_types.specs.Story.{Running}
+use Rattle.dht_types.specs.History.{PendingCall}
 use Rattle.dht_types.specs.declared.identifiers.Gfid.{Gfid}
 use Rattle.dht_types.specs.declared.locks.Key.{Key}
 use Rattle.dht_types.specs.declared.locks.Mode.{Mode}
@@ -61,7 +61,7 @@ pub place_stable : (l : Location) (s t : Scene) → HasPlace l s → Others s t 
 place_stable l s t h o = record { bricks = ap length o.weights ∙ h.bricks; root = h.root }
 
 pub fresh_stable : (l : Location) (s t : Scene) → IsFresh l s → Others s t → IsFresh l t
-fresh_stable l s t h o = record { place = place_stable l s t h.place o; deeds = ap (λ (r : Running). r.deeds) o.mine ∙ h.deeds }
+fresh_stable l s t h o = record { place = place_stable l s t h.place o; deeds = ap (λ (r : PendingCall). r.deeds) o.mine ∙ h.deeds }
 
 lock_stable : (s t : Scene) (g : Gfid) (k : Key) (mode : Mode) → lock_at s.disk g k s.who ≡ Some mode → Others s t → lock_at t.disk g k t.who ≡ Some mode
 lock_stable s t g k mode h o = ap (λ c. lock_at t.disk g k c) o.who ∙ o.locks g k mode h
@@ -82,7 +82,7 @@ saw_stable l found at s t h o =
     let later = o.later in
     let before = h.before in
     record {
-      after = subst (λ (m : Running). m.since ≤ at) (sym o.mine) h.after;
+      after = subst (λ (m : PendingCall). m.since ≤ at) (sym o.mine) h.after;
       before = omega arith;
       directory = ap (λ (p : Tree). p.dirs l.directory) (o.past at h.before) ∙ h.directory;
       node = ap (λ (p : Tree). p.names (entry_at l)) (o.past at h.before) ∙ h.node;

@@ -3,11 +3,13 @@
 ghost use Rattle.std.specs.Prelude.{◌≡◌, ◌<◌, ◌≤◌, ℕ, Bool, true, false, not, None, length, MatchOption};
 ghost use Rattle.dht_types.specs.Cost.{cost};
 ghost use Rattle.dht_types.specs.declared.identifiers.ClientNo.{ClientNo};
-ghost use Rattle.dht_brick.specs.declared.machines.Ask.{Ask};
-ghost use Rattle.dht_section.specs.Scene.{Scene, Sound, Moved, Permitted, Others, Earned};
-ghost use Rattle.dht_section.specs.Begins.{Begins, IsInRoot};
+ghost use Rattle.dht_section.specs.declared.machine.Ask.{Ask};
+ghost use Rattle.dht_section.specs.Scene.{Scene, Sound, Permitted, Others};
+ghost use Rattle.dht_section.specs.Turns.{CallMoves};
+ghost use Rattle.dht_section.specs.Begins.{Begins};
+ghost use Rattle.dht_types.specs.Calls.{IsInRoot};
 
-use dht_brick::machines::{Ask, Finish};
+use super::machine::{Ask, Finish};
 use dht_brick::replies::Reply;
 use dht_types::calls::Call;
 use dht_types::identifiers::CallNo;
@@ -41,7 +43,8 @@ pub trait Caller: Sized {
         requires root { IsInRoot what.now }
         ensures busy { is_busy self.new ≡ true }
         ensures number { number self.new ≡ number self.old }
-        ensures knows { (s : Scene) → Begins (number self.old) weights.now run call what.now s → knows self.new s }
+        ensures knows { (s : Scene) → Begins (number self.old) weights.now run call what.now s
+            → knows self.new s }
         ensures left { left self.new ≤ cost (length weights.now) what.now };
 
     /// The request that its call sends next.
@@ -54,11 +57,11 @@ pub trait Caller: Sized {
     fn take(&mut self, reply: Reply, at: u64) -> Option<Finish>
         requires { is_busy self.old ≡ true }
         ensures number { number self.new ≡ number self.old }
-        ensures moves { (s t : Scene) → Sound s → Sound t → knows self.old s → Moved s (asks self.old) reply t → at ≡ t.story.size
-            → MatchOption result ((is_busy self.new ≡ true) × knows self.new t × (left self.new < left self.old)) (λ f. (is_busy self.new ≡ false) × Earned f t) };
+        ensures moves { CallMoves is_busy asks knows left self.old self.new reply at result };
 
     /// Its call may send its request in every sound scene of which its knowledge holds.
-    ghost permitted: { (c : Self) (s : Scene) → Sound s → is_busy c ≡ true → knows c s → Permitted s (asks c) };
+    ghost permitted: { (c : Self) (s : Scene) → Sound s → is_busy c ≡ true → knows c s
+        → Permitted s (asks c) };
 
     /// What others may do leaves its knowledge true.
     ghost stable: { (c : Self) (s t : Scene) → knows c s → Others s t → knows c t };

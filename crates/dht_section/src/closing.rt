@@ -1,15 +1,14 @@
 //! The closing: the end of a call that took locks. They are given back, and then the call answers.
 
 ghost use Rattle.std.specs.Prelude.{◌≡◌, ◌<◌, ℕ, [], None};
-ghost use Rattle.dht_section.specs.Scene.{Scene, Sound, Moved, Earned};
-ghost use Rattle.dht_section.specs.Turns.{MatchTurn};
-ghost use Rattle.dht_section.specs.Section.{lock_brick, LocksBy, stopped_locks, stopped_location, both_locks, HasPlace};
-ghost use Rattle.dht_section.specs.Closing.{closing_asks, closing_left, closing_locks, closing_finish, ClosingKnows, want_of_memory};
+ghost use Rattle.dht_section.specs.Scene.{Scene, Earned};
+ghost use Rattle.dht_section.specs.Turns.{Moves};
+ghost use Rattle.dht_section.specs.Section.{lock_brick, LocksFollow, stopped_locks, stopped_location, both_locks, HasPlace};
+ghost use Rattle.dht_section.specs.Closing.{closing_asks, closing_left, closing_locks, closing_finish, ClosingKnows, KeepsFinish, out_of_memory};
 ghost use Rattle.dht_section.specs.ClosingLaws.{closing_permitted, closing_stable};
 
-use super::machine::Machine;
+use super::machine::{Ask, Finish, Machine, Turn};
 use super::section::{Location, Stopped};
-use dht_brick::machines::{Ask, Finish, Turn};
 use dht_brick::replies::Reply;
 use dht_brick::requests::Request;
 use dht_types::calls::Answer;
@@ -17,7 +16,7 @@ use dht_types::errors::Errno;
 use dht_types::locks::Key;
 
 /// A closing, with what the call will answer. Each stage is one request.
-#[derive(Debug, Drop)]
+#[derive(Drop)]
 pub enum Closing {
     /// Both locks were asked for.
     UnlockingName(Location, Finish),
@@ -25,9 +24,9 @@ pub enum Closing {
     UnlockingDirectory(Location, Finish),
 }
 
-/// The answer of a call that was stopped by want of memory. It holds at no line.
-pub fn want_of_memory() -> Finish
-    ensures { result ≡ want_of_memory }
+/// The answer of a call that was stopped because memory ran out. It holds at no line.
+pub fn out_of_memory() -> Finish
+    ensures { result ≡ out_of_memory }
 {
     Finish {
         answer: Answer::Fault(Errno::Enomem),
@@ -38,7 +37,8 @@ pub fn want_of_memory() -> Finish
 impl Closing {
     /// Gives both locks back, and answers so.
     pub fn new(location: Location, finish: Finish) -> Closing
-        ensures knows { (s : Scene) → HasPlace location s → Earned finish s → ClosingKnows result s }
+        ensures knows { (s : Scene) → HasPlace location s → Earned finish s
+            → ClosingKnows result s }
         ensures finish { closing_finish result ≡ finish }
         ensures locks { closing_locks result ≡ both_locks location }
     {
@@ -47,15 +47,16 @@ impl Closing {
 
     /// Gives back what a section that was stopped asked for, and answers so.
     pub fn of_stopped(stopped: Stopped) -> Closing
-        ensures knows { (s : Scene) → HasPlace (stopped_location stopped) s → ClosingKnows result s }
-        ensures finish { closing_finish result ≡ want_of_memory }
+        ensures knows { (s : Scene) → HasPlace (stopped_location stopped) s
+            → ClosingKnows result s }
+        ensures finish { closing_finish result ≡ out_of_memory }
         ensures locks { closing_locks result ≡ stopped_locks stopped }
     {
         match stopped {
             Stopped::Directory(location) => {
-                Closing::UnlockingDirectory(location, want_of_memory())
+                Closing::UnlockingDirectory(location, out_of_memory())
             }
-            Stopped::Both(location) => Closing::UnlockingName(location, want_of_memory()),
+            Stopped::Both(location) => Closing::UnlockingName(location, out_of_memory()),
         }
     }
 }
@@ -85,10 +86,10 @@ impl Machine for Closing {
     }
 
     fn take(self, reply: Reply, at: u64) -> Turn<Closing, Finish>
-        ensures moves { (s t : Scene) → Sound s → Sound t → ClosingKnows self s → Moved s (closing_asks self) reply t → at ≡ t.story.size
-            → MatchTurn result (λ m. ClosingKnows m t × (closing_left m < closing_left self)) (λ d. Earned d t) }
-        ensures finish { MatchTurn result (λ m. closing_finish m ≡ closing_finish self) (λ d. d ≡ closing_finish self) }
-        ensures locks { MatchTurn result (λ m. LocksBy (closing_asks self).request (closing_locks self) (closing_locks m)) (λ d. LocksBy (closing_asks self).request (closing_locks self) []) }
+        ensures moves { Moves closing_asks ClosingKnows closing_left Earned self reply at result }
+        ensures finish { KeepsFinish self result }
+        ensures locks { LocksFollow closing_locks (λ f. []) self
+            (closing_asks self).request result }
     {
         match self {
             Closing::UnlockingName(location, finish) => {

@@ -3,12 +3,35 @@
 //! makes what it knows false.
 
 ghost use Rattle.std.specs.Prelude.{◌≡◌, ◌<◌, ℕ};
-ghost use Rattle.dht_brick.specs.declared.machines.Ask.{Ask};
-ghost use Rattle.dht_section.specs.Turns.{MatchTurn};
-ghost use Rattle.dht_section.specs.Scene.{Scene, Sound, Moved, Permitted, Others};
+ghost use Rattle.dht_section.specs.declared.machine.Ask.{Ask as AnAsk};
+ghost use Rattle.dht_section.specs.Turns.{Moves};
+ghost use Rattle.dht_section.specs.Scene.{Scene, Sound, Permitted, Others};
 
-use dht_brick::machines::{Ask, Turn};
 use dht_brick::replies::Reply;
+use dht_brick::requests::Request;
+use dht_types::calls::Answer;
+use dht_types::identifiers::BrickNo;
+
+/// A request to one brick.
+#[derive(Drop)]
+pub struct Ask {
+    pub brick: BrickNo,
+    pub request: Request,
+}
+
+/// After a reply a machine goes on, or is done.
+#[derive(Drop)]
+pub enum Turn<M, D> {
+    Go(M),
+    Done(D),
+}
+
+/// What a finished call answers, and the line at which the answer holds, where it has one.
+#[derive(Clone, Copy)]
+pub struct Finish {
+    pub answer: Answer,
+    pub at: Option<u64>,
+}
 
 /// A program of requests. It learns from replies alone; `at` is the number of the line on which a
 /// reply stands, which it may hand out as the point of an answer.
@@ -17,7 +40,7 @@ pub trait Machine: Sized {
     type Done;
 
     /// The request that it sends next.
-    ghost asks: { Self → Ask };
+    ghost asks: { Self → AnAsk };
 
     /// What it knows of the scene between its requests.
     ghost knows: { Self → Scene → Type 0 };
@@ -34,8 +57,7 @@ pub trait Machine: Sized {
 
     /// Takes the reply to its request.
     fn take(self, reply: Reply, at: u64) -> Turn<Self, Self::Done>
-        ensures moves { (s t : Scene) → Sound s → Sound t → knows self s → Moved s (asks self) reply t → at ≡ t.story.size
-            → MatchTurn result (λ m. knows m t × (left m < left self)) (λ d. earned d t) };
+        ensures moves { Moves asks knows left earned self reply at result };
 
     /// It may send its request in every sound scene of which its knowledge holds.
     ghost permitted: { (m : Self) (s : Scene) → Sound s → knows m s → Permitted s (asks m) };

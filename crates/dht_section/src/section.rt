@@ -2,15 +2,13 @@
 //! and then looks for the name on every brick.
 
 ghost use Rattle.std.specs.Prelude.{◌≡◌, ◌<◌, ℕ, false, [], None, option_map};
-ghost use Rattle.dht_section.specs.Scene.{Scene, Sound, Moved};
-ghost use Rattle.dht_section.specs.Turns.{MatchTurn};
-ghost use Rattle.dht_section.specs.Replies.{is_no_memory};
-ghost use Rattle.dht_section.specs.Section.{lock_brick, found_then, lengthened, seen, nothing_seen, held_holder, section_asks, section_left, section_location, section_locks, section_stopped, section_taught, SectionKnows, OutcomeFact, outcome_location, outcome_locks, is_stopped, LocksBy, HasPlace};
+ghost use Rattle.dht_section.specs.Scene.{Scene};
+ghost use Rattle.dht_section.specs.Turns.{Moves};
+ghost use Rattle.dht_section.specs.Section.{lock_brick, found_then, lengthened, seen, nothing_seen, held_holder, section_asks, section_left, section_location, section_locks, section_stopped, section_taught, SectionKnows, OutcomeFact, outcome_location, outcome_locks, is_stopped, KeepsLocation, LocksFollow, StopsByMemory, HasPlace};
 ghost use Rattle.dht_section.specs.SectionLaws.{section_permitted, section_stable};
 
-use super::machine::Machine;
+use super::machine::{Ask, Machine, Turn};
 use super::replies::{file_shown, is_no_memory, range_shown};
-use dht_brick::machines::{Ask, Turn};
 use dht_brick::replies::Reply;
 use dht_brick::requests::{NameRequest, Request};
 use dht_hash::dm_hash;
@@ -21,7 +19,7 @@ use dht_xattr::layout::{Layout, MOST_RANGES, holder};
 use dht_xattr::range::Range;
 
 /// A name in a directory, of a volume of so many bricks.
-#[derive(Clone, Copy, Debug)]
+#[derive(Clone, Copy)]
 pub struct Location {
     pub directory: Gfid,
     pub name: Name,
@@ -42,14 +40,14 @@ impl Location {
 }
 
 /// Where a name was found: the brick, and the file that the name is.
-#[derive(Clone, Copy, Debug)]
+#[derive(Clone, Copy)]
 pub struct Place {
     pub brick: BrickNo,
     pub file: Gfid,
 }
 
 /// A section. Each stage is one request.
-#[derive(Debug, Drop)]
+#[derive(Drop)]
 pub enum Section {
     /// Nothing was asked yet.
     LockingDirectory(Location),
@@ -60,7 +58,7 @@ pub enum Section {
 }
 
 /// What some bricks showed of a name and of its directory.
-#[derive(Clone, Copy, Debug)]
+#[derive(Clone, Copy)]
 pub struct Seen {
     /// Where the name is, if it is on one of them.
     pub place: Option<Place>,
@@ -69,7 +67,7 @@ pub struct Seen {
 }
 
 /// Both locks are held, and all bricks were looked at.
-#[derive(Clone, Copy, Debug)]
+#[derive(Clone, Copy)]
 pub struct Held {
     pub location: Location,
     /// Where the name is, if it is anywhere.
@@ -81,15 +79,15 @@ pub struct Held {
 }
 
 /// A brick had no memory for a request of the section. These locks were asked for.
-#[derive(Clone, Copy, Debug)]
+#[derive(Clone, Copy)]
 pub enum Stopped {
     Directory(Location),
     Both(Location),
 }
 
 /// How a section ends.
-#[derive(Clone, Copy, Debug)]
-pub enum Outcome {
+#[derive(Clone, Copy)]
+pub enum SectionOutcome {
     Held(Held),
     Stopped(Stopped),
 }
@@ -151,7 +149,8 @@ impl Held {
 impl Section {
     /// The section of a name.
     pub fn new(location: Location) -> Section
-        ensures knows { (s : Scene) → HasPlace location s → s.mine.deeds ≡ None → SectionKnows result s }
+        ensures knows { (s : Scene) → HasPlace location s → s.mine.deeds ≡ None
+            → SectionKnows result s }
         ensures location { section_location result ≡ location }
         ensures locks { section_locks result ≡ [] }
     {
@@ -189,7 +188,7 @@ impl Section {
 }
 
 impl Machine for Section {
-    type Done = Outcome;
+    type Done = SectionOutcome;
 
     ghost asks = { section_asks };
 
@@ -219,16 +218,17 @@ impl Machine for Section {
         }
     }
 
-    fn take(self, reply: Reply, at: u64) -> Turn<Section, Outcome>
-        ensures moves { (s t : Scene) → Sound s → Sound t → SectionKnows self s → Moved s (section_asks self) reply t → at ≡ t.story.size
-            → MatchTurn result (λ m. SectionKnows m t × (section_left m < section_left self)) (λ d. OutcomeFact d t) }
-        ensures location { MatchTurn result (λ m. section_location m ≡ section_location self) (λ d. outcome_location d ≡ section_location self) }
-        ensures locks { MatchTurn result (λ m. LocksBy (section_asks self).request (section_locks self) (section_locks m)) (λ d. LocksBy (section_asks self).request (section_locks self) (outcome_locks d)) }
-        // it is stopped exactly by want of memory
-        ensures memory { MatchTurn result (λ m. is_no_memory reply ≡ false) (λ d. is_stopped d ≡ is_no_memory reply) }
+    fn take(self, reply: Reply, at: u64) -> Turn<Section, SectionOutcome>
+        ensures moves { Moves section_asks SectionKnows section_left OutcomeFact
+            self reply at result }
+        ensures location { KeepsLocation self result }
+        ensures locks { LocksFollow section_locks outcome_locks self
+            (section_asks self).request result }
+        // it is stopped exactly where memory ran out
+        ensures memory { StopsByMemory reply result }
     {
         if is_no_memory(&reply) {
-            return Turn::Done(Outcome::Stopped(self.stopped()));
+            return Turn::Done(SectionOutcome::Stopped(self.stopped()));
         }
         match self {
             Section::LockingDirectory(location) => Turn::Go(Section::LockingName(location)),
@@ -241,7 +241,7 @@ impl Machine for Section {
                 if next < location.bricks {
                     Turn::Go(Section::Looking(location, BrickNo(next), seen))
                 } else {
-                    Turn::Done(Outcome::Held(Held {
+                    Turn::Done(SectionOutcome::Held(Held {
                         location,
                         found: seen.place,
                         layout: seen.layout,

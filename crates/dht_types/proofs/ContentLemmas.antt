@@ -9,9 +9,9 @@ use Rattle.dht_types.specs.Content.{cut_to, written}
 no_zeros : (xs : List ℕ) (k : ℕ) → k ≤ length xs → replicate {A = ℕ} (k - length xs) 0 ≡ []
 no_zeros xs k long = let none : k - length xs ≡ 0 = omega arith in ap (λ n. replicate {A = ℕ} n 0) none
 
--- the front of bytes that were grown to a length above it
-front : (xs : List ℕ) (k m : ℕ) → k ≤ m → take k (xs ++ replicate (m - length xs) 0) ≡ cut_to xs k
-front xs k m below = ⊎_elim
+-- a prefix of bytes that were grown to a length above it
+prefix_grown : (xs : List ℕ) (k m : ℕ) → k ≤ m → take k (xs ++ replicate (m - length xs) 0) ≡ cut_to xs k
+prefix_grown xs k m below = ⊎_elim
     (λ short. let past : length xs + (k - length xs) ≡ k = omega arith in
     let fits : k - length xs ≤ m - length xs = omega arith in
     let size : length xs ≤ k = omega arith in
@@ -38,7 +38,7 @@ pub written_over : (old piece : List ℕ) (start : ℕ) → let grown = old ++ r
     take start grown ++ piece ++ drop (start + length piece) grown ≡ written old start piece
 written_over old piece start =
     let below : start ≤ start + length piece = omega arith in
-    ap (λ xs. xs ++ piece ++ drop (start + length piece) (old ++ replicate (start + length piece - length old) 0)) (front old start (start + length piece) below)
+    ap (λ xs. xs ++ piece ++ drop (start + length piece) (old ++ replicate (start + length piece - length old) 0)) (prefix_grown old start (start + length piece) below)
     ∙ ap (λ ys. cut_to old start ++ piece ++ ys) (back old (start + length piece))
 
 -- all of a list that is written back

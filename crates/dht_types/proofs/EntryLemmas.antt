@@ -1,11 +1,10 @@
 -- Keys of one name in one directory.
-use Rattle.std.proofs.Common.{◌≡◌, ℕ, List, true, false, ap, sym, ◌∙◌, refl}
+use Rattle.std.proofs.Common.{◌≡◌, ℕ, List, ap, sym, ◌∙◌, refl}
 use Rattle.std.specs.Ordering.{nat_cmp, is_eq, ordering_then}
 use Rattle.std.specs.Cmp.Lexicographic.{slice_cmp}
 use Rattle.std.specs.declared.cmp.Ordering.{Ordering}
 use Rattle.std.specs.declared.cmp.Ordering.TheVariants.{Less, Equal, Greater}
 use Rattle.std.proofs.lemmas.Cmp.{ranked}
-use Rattle.std.proofs.lemmas.Bool.{false_from_ne_true}
 use Rattle.std.proofs.lemmas.Map.Text.{is_eq-slice_cmp}
 use Rattle.std.proofs.lemmas.Slice.Eq.{bytes_eq-Decides}
 use Rattle.dht_types.specs.declared.names.EntryKey.{EntryKey}
@@ -32,13 +31,3 @@ entry_cmp-Equal a b tied =
     let name = names_tied a.name b.name parts.1 in
     let key : ℕ → List ℕ → EntryKey = λ number bytes. record { dir = record { 0 = number }; name = bytes } in
     ap (λ number. key number a.name) dir ∙ ap (key b.dir.0) name
-
-is_eq-Equal : (order : Ordering) → is_eq order ≡ true → order ≡ Equal
-is_eq-Equal Less equal = cc
-is_eq-Equal Equal equal = refl
-is_eq-Equal Greater equal = cc
-
--- two keys do not compare equal
-pub entries_apart : (a b : EntryKey) → ¬ (a ≡ b) → is_eq (entry_cmp a b) ≡ false
-entries_apart a b differ =
-    false_from_ne_true (is_eq (entry_cmp a b)) (λ equal. differ (entry_cmp-Equal a b (is_eq-Equal (entry_cmp a b) equal)))

@@ -42,7 +42,7 @@ hex_number_lem (suc k) n =
     ∙ sym (hex_bytes-append (bytes_high_first k (n / 256)) ((n % 256) ∷ []))
     ∙ ap hex_bytes (sym (bytes-last k n))
 
--- a sum with its first part in front
+-- a sum with its first part apart
 sum_through-suc : (f : ℕ → ℕ) (k : ℕ) → sum_through f (suc k) ≡ f 0 + sum_through (λ i. f (suc i)) k
 sum_through-suc f zero = refl
 sum_through-suc f (suc k) = omega (arith, sum_through-suc f k)

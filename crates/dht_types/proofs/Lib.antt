@@ -1,5 +1,5 @@
 pub mod PutLaws
-pub mod StoryLaws
+pub mod HistoryLaws
 pub mod ContentLemmas
 pub mod HexLemmas
 pub mod TextLemmas

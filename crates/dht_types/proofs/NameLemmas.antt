@@ -29,10 +29,10 @@ none_forbidden bytes no_slash no_zero =
 named : (bytes : List ℕ) → is_invalid bytes ≡ false → length bytes ≤ 255 → IsName bytes
 named bytes valid short =
     let parts = or_parts ((length bytes == 0) || is_dots bytes) (list_any is_forbidden bytes) valid in
-    let front = or_parts (length bytes == 0) (is_dots bytes) parts.0 in
-    let dots = or_parts (bytes_eq bytes (codes ".")) (bytes_eq bytes (codes "..")) front.1 in
+    let short_or_dots = or_parts (length bytes == 0) (is_dots bytes) parts.0 in
+    let dots = or_parts (bytes_eq bytes (codes ".")) (bytes_eq bytes (codes "..")) short_or_dots.1 in
     record {
-      positive = grind (arith, nat_tests, front.0);
+      positive = grind (arith, nat_tests, short_or_dots.0);
       short = short;
       not_here = not_from_Decides _ (bytes_eq-Decides bytes (codes ".")) dots.0;
       not_above = not_from_Decides _ (bytes_eq-Decides bytes (codes "..")) dots.1;

@@ -3,9 +3,11 @@ pub mod Gfid
 pub mod Name
 pub mod Padded
 pub mod Put
-pub mod Story
+pub mod History
+pub mod AnswerLaws
 pub mod Tree
 pub mod Text
+pub mod Calls
 pub mod Cost
 pub mod Entry
 pub mod Volume

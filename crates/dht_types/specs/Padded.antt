@@ -1,34 +1,34 @@
--- Bytes at the front of a place of 255, with zeros behind them.
+-- A list at the start of a place of fixed size, with one filler behind it.
 use Rattle.std.specs.Prelude.{ℕ, ◌≡◌, ◌-◌, ◌≤◌, List, ◌++◌, length, take, drop, replicate}
-use Rattle.std.proofs.Common.{sym, ap, ◌∙◌, arith}
+use Rattle.std.proofs.Common.{sym, ap, ◌∙◌, arith, length-append}
 use Rattle.std.proofs.lemmas.List.{take-append-drop, length-take-le, length-replicate}
-use Rattle.std.proofs.Common.{length-append}
 use Rattle.std.proofs.Math.Seq.{take-append_seam, drop-append_seam}
 
--- the first n of 255 bytes count, and the others are 0
-pub record IsPadded (n : ℕ) (bytes : List ℕ) : Type 0 where
-  pub size : length bytes ≡ 255
-  pub short : n ≤ 255
-  pub zeros : drop n bytes ≡ replicate (255 - n) 0
+-- the first n of so many places count, and the others have the filler
+pub record IsPadded {A : Type 0} (size : ℕ) (filler : A) (n : ℕ) (places : List A) : Type 0 where
+  pub full : length places ≡ size
+  pub short : n ≤ size
+  pub filled : drop n places ≡ replicate (size - n) filler
 
--- the bytes that count, padded again
-abbrev pub padded : List ℕ → List ℕ
-padded xs = xs ++ replicate (255 - length xs) 0
+-- the elements that count, padded again
+abbrev pub padded : {A : Type 0} → ℕ → A → List A → List A
+padded size filler xs = xs ++ replicate (size - length xs) filler
 
-pub length_back : (n : ℕ) (bytes : List ℕ) → IsPadded n bytes → length (take n bytes) ≡ n
-length_back n bytes h = let size = h.size in let short = h.short in length-take-le n bytes (omega arith)
+pub length_back : {A : Type 0} (size : ℕ) (filler : A) (n : ℕ) (places : List A) → IsPadded size filler n places → length (take n places) ≡ n
+length_back size filler n places h = let full = h.full in let short = h.short in length-take-le n places (omega arith)
 
-pub bytes_back : (n : ℕ) (bytes : List ℕ) → IsPadded n bytes → padded (take n bytes) ≡ bytes
-bytes_back n bytes h =
-    ap (λ m. take n bytes ++ replicate (255 - m) 0) (length_back n bytes h) ∙ (ap (λ zs. take n bytes ++ zs) (sym h.zeros) ∙ take-append-drop n bytes)
+pub places_back : {A : Type 0} (size : ℕ) (filler : A) (n : ℕ) (places : List A) → IsPadded size filler n places → padded size filler (take n places) ≡ places
+places_back size filler n places h =
+    ap (λ m. take n places ++ replicate (size - m) filler) (length_back size filler n places h)
+    ∙ (ap (λ rest. take n places ++ rest) (sym h.filled) ∙ take-append-drop n places)
 
 -- to pad is to pad
-pub padded_is : (xs : List ℕ) → length xs ≤ 255 → IsPadded (length xs) (padded xs)
-padded_is xs h = record {
-  size = omega (arith, length-append xs (replicate (255 - length xs) 0), length-replicate {A = ℕ} (255 - length xs) 0);
+pub padded_is : {A : Type 0} (size : ℕ) (filler : A) (xs : List A) → length xs ≤ size → IsPadded size filler (length xs) (padded size filler xs)
+padded_is {A} size filler xs h = record {
+  full = omega (arith, length-append xs (replicate (size - length xs) filler), length-replicate {A = A} (size - length xs) filler);
   short = h;
-  zeros = drop-append_seam xs (replicate (255 - length xs) 0);
+  filled = drop-append_seam xs (replicate (size - length xs) filler);
 }
 
-pub padded_front : (xs : List ℕ) → take (length xs) (padded xs) ≡ xs
-padded_front xs = take-append_seam xs (replicate (255 - length xs) 0)
+pub padded_prefix : {A : Type 0} (size : ℕ) (filler : A) (xs : List A) → take (length xs) (padded size filler xs) ≡ xs
+padded_prefix size filler xs = take-append_seam xs (replicate (size - length xs) filler)

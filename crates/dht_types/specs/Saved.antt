@@ -18,15 +18,15 @@ use Rattle.dht_types.specs.declared.stored.Main.TheVariants as main
 use Rattle.dht_types.specs.declared.stored.Record.{Record}
 use Rattle.dht_types.specs.declared.stored.Record.TheVariants.{Live, Moving, Standby, Forward}
 
--- a text is at most 65,535 bytes
-abbrev pub IsText : List ℕ → Type 0
-IsText text = length text ≤ 65535
+-- a value is at most 65,535 bytes
+abbrev pub IsValue : List ℕ → Type 0
+IsValue value = length value ≤ 65535
 
 -- no brick is spelled as the brick of number 65,535
 abbrev pub IsSpelledMain : Main → Type 0
 IsSpelledMain (main.Dir g) = Unit {0}
 IsSpelledMain (main.File f over) = IfSome over (λ brick. brick.0 < 65535)
-IsSpelledMain (main.Linkto value) = IsText value
+IsSpelledMain (main.Linkto value) = IsValue value
 
 -- a slot has a name and a part
 pub record IsSpelledSlot (s : SavedSlot) : Type 0 where
@@ -42,7 +42,7 @@ Rise slots = AllPairs (λ a b. slice_cmp nat_cmp a.name b.name ≡ Less) slots
 pub record IsSpelledDir (d : SavedDir) : Type 0 where
   pub root : (d.dir.place ≡ None) ↔ (d.gfid ≡ root)
   pub name : IfSome d.dir.place (λ key. IsName key.name)
-  pub value : IfSome d.dir.value IsText
+  pub value : IfSome d.dir.value IsValue
   pub slots : All IsSpelledSlot d.slots
   pub rising : Rise d.slots
 
@@ -56,7 +56,7 @@ abbrev pub IsSpelledFile : SavedFile → Type 0
 IsSpelledFile s = IsSpelledRecord s.file
 
 abbrev pub IsSpelledEntry : IntentEntry → Type 0
-IsSpelledEntry e = IsText e.name
+IsSpelledEntry e = IsValue e.name
 
 pub record IsSpelledIntent (i : SavedIntent) : Type 0 where
   pub few : length i.entries ≤ 65535

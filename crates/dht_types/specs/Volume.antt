@@ -54,6 +54,10 @@ fault_of names weights run =
     else if not (are_names names) then Some Name
     else late_fault_of weights run
 
+-- some brick has weight
+abbrev pub HasWeight : List ℕ → Type 0
+HasWeight weights = Any (λ w. 0 < w) weights
+
 -- nothing is wrong with a volume
 pub record IsVolume (v : VolumeInfo) : Type 0 where
   pub positive : 0 < length v.names
@@ -62,7 +66,7 @@ pub record IsVolume (v : VolumeInfo) : Type 0 where
   pub named : All (λ name. is_brick_name name ≡ true) v.names
   pub distinct : AllPairs (λ a b. a ≢ b) v.names
   pub light : All (λ w. w ≤ 1000) v.weights
-  pub heavy : Any (λ w. 0 < w) v.weights
+  pub heavy : HasWeight v.weights
   pub counted : 0 < v.run
 
 -- the name of a replay's brick

@@ -7,7 +7,7 @@ use std::alloc::{AllocError, Global};
 use std::marker::Model;
 
 /// A list of bytes. Contracts see it as that list.
-#[derive(Debug, Drop)]
+#[derive(Drop)]
 pub struct Bytes {
     each: Vec<u8>,
 }
@@ -22,7 +22,8 @@ impl Model for Bytes {
 
 /// Adds zeros up to a length, if there are fewer bytes.
 fn grow(bytes: &mut Vec<u8>, size: usize) -> Result<(), AllocError>
-    ensures ok { OnOk result (bytes.new.items ≡ bytes.old.items ++ replicate (size - length bytes.old.items) 0) }
+    ensures ok { OnOk result (bytes.new.items
+        ≡ bytes.old.items ++ replicate (size - length bytes.old.items) 0) }
     ensures err { OnErr result (bytes.new.items ≡ bytes.old.items) }
 {
     if size <= bytes.len() {
@@ -34,7 +35,8 @@ fn grow(bytes: &mut Vec<u8>, size: usize) -> Result<(), AllocError>
 /// Writes a piece over the bytes at an offset.
 fn overwrite(bytes: &mut [u8], start: usize, piece: &[u8])
     requires { start + length piece.now ≤ length bytes.old }
-    ensures { bytes.new ≡ take start bytes.old ++ piece.now ++ drop (start + length piece.now) bytes.old }
+    ensures { bytes.new
+        ≡ take start bytes.old ++ piece.now ++ drop (start + length piece.now) bytes.old }
 {
     bytes[start..start + piece.len()].copy_from_slice(piece);
 }
@@ -85,24 +87,5 @@ impl Bytes {
         ensures err { OnErr result (self.new ≡ self.old) }
     {
         self.each.resize(length as usize, 0)
-    }
-}
-
-#[cfg(test)]
-mod tests {
-    use super::*;
-    use std::test::Fail;
-
-    #[test]
-    fn bytes_are_written_and_cut(rt: HostRuntime) -> Result<(), Fail> {
-        let mut bytes = Bytes::new(Vec::new(rt.alloc()));
-        bytes.write(2, b"abc")?;
-        assert_eq!(rt; bytes.as_slice(), b"\0\0abc".as_slice());
-        bytes.write(1, b"xy")?;
-        assert_eq!(rt; bytes.as_slice(), b"\0xybc".as_slice());
-        bytes.cut(3)?;
-        bytes.cut(5)?;
-        assert_eq!(rt; bytes.as_slice(), b"\0xy\0\0".as_slice());
-        Ok(())
     }
 }

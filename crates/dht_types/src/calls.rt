@@ -5,7 +5,7 @@ use super::identifiers::Gfid;
 use super::names::Name;
 
 /// A call of a client.
-#[derive(Clone, Copy, Debug)]
+#[derive(Clone, Copy)]
 pub enum Call {
     /// What stands at this name of this directory.
     Lookup(Gfid, Name),
@@ -14,7 +14,7 @@ pub enum Call {
 }
 
 /// What a call answers.
-#[derive(Clone, Copy, Debug)]
+#[derive(Clone, Copy)]
 pub enum Answer {
     /// The name is this file's.
     File(Gfid),
@@ -25,7 +25,7 @@ pub enum Answer {
 }
 
 /// A step of the directory tree.
-#[derive(Clone, Copy, Debug)]
+#[derive(Clone, Copy)]
 pub enum TreeStep {
     /// In this directory this name is now this new, empty file's.
     AddFile(Gfid, Name, Gfid),

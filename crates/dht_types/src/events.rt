@@ -5,7 +5,7 @@ use super::volumes::Weights;
 
 /// What a line of a schedule says. A number of a client is what the line says, whether or not there
 /// is such a client.
-#[derive(Debug, Drop)]
+#[derive(Drop)]
 pub enum Event {
     /// The volume: its bricks' weights, in the bricks' order. It stands first and alone.
     Volume(Weights),

@@ -14,15 +14,15 @@ use uuid::Uuid;
 pub struct Gfid(pub u128);
 
 /// The number of a brick, from 0.
-#[derive(Clone, Copy, Debug, PartialEq, Eq, PartialOrd, Ord)]
+#[derive(Clone, Copy, PartialEq, Eq, PartialOrd, Ord)]
 pub struct BrickNo(pub u16);
 
 /// The number of a client, from 0.
-#[derive(Clone, Copy, Debug, PartialEq, Eq, PartialOrd, Ord)]
+#[derive(Clone, Copy, PartialEq, Eq, PartialOrd, Ord)]
 pub struct ClientNo(pub u16);
 
 /// The number of an accepted call, from 1, over a whole replay.
-#[derive(Clone, Copy, Debug, PartialEq, Eq, PartialOrd, Ord)]
+#[derive(Clone, Copy, PartialEq, Eq, PartialOrd, Ord)]
 pub struct CallNo(pub u64);
 
 impl Gfid {
@@ -93,6 +93,3 @@ impl Gfid {
 pub fn text_is_of_one_gfid()
     ensures { (a b : Gfid) → a.0 < 2 ^ 128 → b.0 < 2 ^ 128 → gfid_text a ≡ gfid_text b → a ≡ b }
 {}
-
-#[cfg(test)]
-mod tests;

@@ -56,7 +56,7 @@ pub enum RequestKind {
 }
 
 /// Why a brick refused a request.
-#[derive(Clone, Copy, Debug, PartialEq, Eq)]
+#[derive(Clone, Copy, PartialEq, Eq)]
 pub enum Refusal {
     /// The brick has no record of the directory.
     Nodir,
@@ -85,7 +85,7 @@ pub enum Refusal {
 }
 
 /// The kind of a brick's reply.
-#[derive(Clone, Copy, Debug, PartialEq, Eq)]
+#[derive(Clone, Copy, PartialEq, Eq)]
 pub enum ReplyKind {
     /// The request was carried out.
     Ok,
@@ -97,12 +97,12 @@ pub enum ReplyKind {
     Down,
     /// The brick failed, and nothing was done.
     Failed,
-    /// The brick had no memory for it, and nothing was done.
+    /// The brick was out of memory, and nothing was done.
     NoMemory,
 }
 
 /// Why an event of a schedule was refused.
-#[derive(Clone, Copy, Debug, PartialEq, Eq)]
+#[derive(Clone, Copy, PartialEq, Eq)]
 pub enum Cause {
     /// The client's call is still running.
     Busy,
@@ -111,7 +111,7 @@ pub enum Cause {
 }
 
 /// A line of a transcript that tells of an event.
-#[derive(Debug, Drop)]
+#[derive(Drop)]
 pub enum Line {
     /// The volume, by its bricks' weights.
     Volume(Weights),
@@ -128,7 +128,7 @@ pub enum Line {
 }
 
 /// What a dump tells of a file's record. A digest is the SHA-256 of the bytes.
-#[derive(Clone, Copy, Debug)]
+#[derive(Clone, Copy)]
 pub enum RecordLine {
     /// The file.
     Live {
@@ -161,7 +161,7 @@ pub enum RecordLine {
 }
 
 /// A line of what the bricks contain in the end.
-#[derive(Debug, Drop)]
+#[derive(Drop)]
 pub enum DumpLine {
     /// What follows is of this brick. Whether it is up.
     Brick(BrickNo, bool),

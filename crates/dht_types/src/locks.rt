@@ -4,7 +4,7 @@ use super::identifiers::Gfid;
 use super::names::Name;
 
 /// What a lock is on. Locks are asked for in this order, and within a kind by gfid, then by name.
-#[derive(Clone, Copy, Debug)]
+#[derive(Clone, Copy, PartialEq, Eq, PartialOrd, Ord)]
 pub enum Key {
     /// The one rebalance of the volume. It stands on brick 0.
     Rebalance,
@@ -17,7 +17,7 @@ pub enum Key {
 }
 
 /// How a lock is held.
-#[derive(Clone, Copy, Debug, PartialEq, Eq)]
+#[derive(Clone, Copy, PartialEq, Eq)]
 pub enum Mode {
     /// Beside others that hold it so.
     Shared,

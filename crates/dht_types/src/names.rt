@@ -20,7 +20,7 @@ use std::marker::Model;
 pub const LONGEST_NAME: usize = 255;
 
 /// A name of at most 255 bytes, kept in place. Contracts see it as the list of its bytes.
-#[derive(Clone, Copy, Debug)]
+#[derive(Clone, Copy)]
 pub struct Name {
     size: u8,
     bytes: [u8; 255],
@@ -28,23 +28,26 @@ pub struct Name {
 
 impl Model for Name {
     ghost use Rattle.std.specs.Prelude.{ℕ, List, length, take};
-    ghost use Rattle.dht_types.specs.Padded.{IsPadded, padded, length_back, bytes_back};
+    ghost use Rattle.dht_types.specs.Padded.{IsPadded, padded, length_back, places_back};
 
     ghost Value = { List ℕ };
 
     ghost view = { λ n. take n.size n.bytes };
 
-    ghost invariant = { λ n. IsPadded n.size n.bytes };
+    ghost invariant = { λ n. IsPadded 255 0 n.size n.bytes };
 
-    ghost inverse = { λ xs. record { size = length xs; bytes = padded xs } };
+    ghost inverse = { λ xs. record { size = length xs; bytes = padded 255 0 xs } };
 
-    ghost inverse_ok = { λ n h. λ i. record { size = length_back n.size n.bytes h i; bytes = bytes_back n.size n.bytes h i } };
+    ghost inverse_ok = { λ n h. λ i. record {
+      size = length_back 255 0 n.size n.bytes h i;
+      bytes = places_back 255 0 n.size n.bytes h i;
+    } };
 }
 
 /// The bytes, and zeros behind them.
 fn place_of(bytes: &[u8]) -> [u8; 255]
     requires { length bytes.now ≤ 255 }
-    ensures { result ≡ padded bytes.now }
+    ensures { result ≡ padded 255 0 bytes.now }
 {
     let mut place = [0u8; 255];
     place[..bytes.len()].copy_from_slice(bytes);
@@ -163,7 +166,7 @@ impl Ord for Name {
 }
 
 /// A name in a directory, as a key of a map.
-#[derive(Clone, Copy, Debug, PartialEq, Eq, PartialOrd, Ord)]
+#[derive(Clone, Copy, PartialEq, Eq, PartialOrd, Ord)]
 pub struct EntryKey {
     /// The directory.
     pub dir: Gfid,
@@ -175,6 +178,3 @@ pub struct EntryKey {
 pub fn equal_keys_are_one()
     ensures { (a b : EntryKey) → entry_cmp a b ≡ Ordering.Equal → a ≡ b }
 {}
-
-#[cfg(test)]
-mod tests;

@@ -9,7 +9,7 @@ use super::stored::{DirRecord, Record, Slot};
 use std::marker::Model;
 
 /// The record of one sidecar file.
-#[derive(Debug, Drop)]
+#[derive(Drop)]
 pub enum Saved {
     /// Of a directory, with its slots.
     Dir(SavedDir),
@@ -20,7 +20,7 @@ pub enum Saved {
 }
 
 /// A directory and what stands in it.
-#[derive(Debug, Drop)]
+#[derive(Drop)]
 pub struct SavedDir {
     /// The directory.
     pub gfid: Gfid,
@@ -31,7 +31,7 @@ pub struct SavedDir {
 }
 
 /// A slot and its name.
-#[derive(Debug, Drop)]
+#[derive(Drop)]
 pub struct SavedSlot {
     /// The name in the directory.
     pub name: Name,
@@ -40,7 +40,7 @@ pub struct SavedSlot {
 }
 
 /// Slots and their names. Contracts see them as a list.
-#[derive(Debug, Drop)]
+#[derive(Drop)]
 pub struct SavedSlots {
     each: Vec<SavedSlot>,
 }
@@ -71,7 +71,7 @@ impl SavedSlots {
 }
 
 /// A file.
-#[derive(Debug, Drop)]
+#[derive(Drop)]
 pub struct SavedFile {
     /// The file.
     pub gfid: Gfid,
@@ -80,14 +80,14 @@ pub struct SavedFile {
 }
 
 /// A change of several files, which counts from the time when it is written.
-#[derive(Debug, Drop)]
+#[derive(Drop)]
 pub struct SavedIntent {
     /// What becomes of each file.
     pub entries: IntentEntries,
 }
 
 /// What becomes of one file.
-#[derive(Debug, Drop)]
+#[derive(Drop)]
 pub struct IntentEntry {
     /// The file's name in the folder.
     pub name: Bytes,
@@ -96,7 +96,7 @@ pub struct IntentEntry {
 }
 
 /// What becomes of files. Contracts see a list.
-#[derive(Debug, Drop)]
+#[derive(Drop)]
 pub struct IntentEntries {
     each: Vec<IntentEntry>,
 }

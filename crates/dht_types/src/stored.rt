@@ -5,7 +5,7 @@ use super::identifiers::{BrickNo, Gfid};
 use super::names::{EntryKey, Name};
 
 /// A brick's record of a directory.
-#[derive(Debug, Drop)]
+#[derive(Drop)]
 pub struct DirRecord {
     /// The directory above it and its name there. The root alone has none.
     pub place: Option<EntryKey>,
@@ -16,7 +16,7 @@ pub struct DirRecord {
 }
 
 /// The main part of a slot: what a name stands for.
-#[derive(Debug, Drop)]
+#[derive(Drop)]
 pub enum Main {
     /// This directory.
     Dir(Gfid),
@@ -29,7 +29,7 @@ pub enum Main {
 }
 
 /// The standby part of a slot: a file that the name may be given to.
-#[derive(Clone, Copy, Debug, PartialEq, Eq)]
+#[derive(Clone, Copy, PartialEq, Eq)]
 pub enum Standby {
     /// A file of this brick, to which a rename gives the name.
     StandLink(Gfid),
@@ -38,7 +38,7 @@ pub enum Standby {
 }
 
 /// What a brick has at a name of a directory. A slot with neither part is not kept.
-#[derive(Debug, Drop)]
+#[derive(Drop)]
 pub struct Slot {
     /// What the name stands for, if anything.
     pub main: Option<Main>,
@@ -47,7 +47,7 @@ pub struct Slot {
 }
 
 /// The copy of a file that is being moved, as the brick keeps it to which the file is moved.
-#[derive(Debug, Drop)]
+#[derive(Drop)]
 pub struct StandbyRecord {
     /// How often the file will have been moved.
     pub hop: u64,
@@ -64,7 +64,7 @@ pub struct StandbyRecord {
 }
 
 /// A brick's record of a file.
-#[derive(Debug, Drop)]
+#[derive(Drop)]
 pub enum Record {
     /// The file: how often it was moved, and its bytes.
     Live(u64, Bytes),

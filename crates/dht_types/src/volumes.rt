@@ -21,7 +21,7 @@ pub const LONGEST_BRICK_NAME: usize = 64;
 pub const GREATEST_WEIGHT: u16 = 1000;
 
 /// The weights of a volume's bricks, in the bricks' order. Contracts see them as a list.
-#[derive(Debug, Drop)]
+#[derive(Drop)]
 pub struct Weights {
     each: Vec<u16>,
 }
@@ -60,7 +60,7 @@ impl Weights {
 }
 
 /// What is wrong with a volume.
-#[derive(Clone, Copy, Debug, PartialEq, Eq)]
+#[derive(Clone, Copy, PartialEq, Eq)]
 pub enum VolumeFault {
     /// There are not 1 to 32 bricks, or not as many weights as bricks.
     Bricks,
@@ -86,7 +86,7 @@ impl From<AllocError> for VolumeFault {
 
 /// A volume: its bricks, each with a name and a weight, and the number of its run. Contracts see it
 /// as a record of these.
-#[derive(Debug, Drop)]
+#[derive(Drop)]
 pub struct Volume {
     names: Vec<Bytes>,
     weights: Weights,
@@ -100,7 +100,11 @@ impl Model for Volume {
 
     ghost view = { λ v. record { names = v.names.items; weights = v.weights; run = v.run } };
 
-    ghost invariant = { λ v. IsVolume (record { names = v.names.items; weights = v.weights; run = v.run }) };
+    ghost invariant = { λ v. IsVolume (record {
+      names = v.names.items;
+      weights = v.weights;
+      run = v.run;
+    }) };
 }
 
 /// Whether a byte may stand in a brick's name.
@@ -244,7 +248,7 @@ fn replay_names(alloc: Global, count: usize) -> Result<Vec<Bytes>, AllocError>
 
 impl Volume {
     /// The volume of these bricks, each with its name and its weight, in this run. It is refused with
-    /// the first fault that it has, in the order in which `VolumeFault` names them; want of memory
+    /// the first fault that it has, in the order in which `VolumeFault` names them; `OutOfMemory`
     /// comes only where there is none.
     pub fn new(
         alloc: Global,
@@ -252,7 +256,8 @@ impl Volume {
         weights: &[u16],
         run: u32,
     ) -> Result<Volume, VolumeFault>
-        ensures volume { IfOk result (λ v. v ≡ record { names = names.now; weights = weights.now; run = run }) }
+        ensures volume { IfOk result
+            (λ v. v ≡ record { names = names.now; weights = weights.now; run = run }) }
         ensures faultless { OnOk result (fault_of names.now weights.now run ≡ None) }
         ensures fault { let fault = fault_of names.now weights.now run in
             IfErr result (λ e. e ≡ unwrap_or fault VolumeFault.OutOfMemory) }
@@ -346,6 +351,3 @@ impl Volume {
 pub fn a_volume_has_no_fault()
     ensures { (v : VolumeInfo) → (fault_of v.names v.weights v.run ≡ None) ↔ IsVolume v }
 {}
-
-#[cfg(test)]
-mod tests;

@@ -6,10 +6,9 @@ use Rattle.dht_types.proofs.PutLaws.{put_same, put_other, exact_nat}
 use Rattle.dht_types.specs.Gfid.{call_of}
 use Rattle.dht_types.specs.Cost.{cost}
 use Rattle.dht_types.specs.Volume.{replay_names}
-use Rattle.dht_types.specs.Story.{Story, Running, told, told_all, start, story_of, LegalFrom}
-use Rattle.dht_types.proofs.StoryLaws.{told_more, told_append, legal_append, point_told}
+use Rattle.dht_types.specs.History.{History, PendingCall, with_line, with_lines, start, history_of, LegalFrom}
+use Rattle.dht_types.proofs.HistoryLaws.{lines_more, lines_append, legal_append, point_with_line}
 use Rattle.dht_types.specs.declared.identifiers.Gfid.{Gfid}
-use Rattle.dht_types.specs.declared.identifiers.ClientNo.{ClientNo}
 use Rattle.dht_types.specs.declared.identifiers.CallNo.{CallNo}
 use Rattle.dht_types.specs.declared.calls.Call.{Call}
 use Rattle.dht_types.specs.declared.lines.Cause.{Cause}
@@ -20,10 +19,11 @@ use Rattle.dht_brick.specs.Named.{entry_of}
 use Rattle.dht_brick.specs.Outcome.{Serves}
 use Rattle.dht_brick.specs.Rows.{row}
 use Rattle.dht_brick.specs.declared.journal.JournalEntry.{JournalEntry}
-use Rattle.dht_brick.specs.declared.machines.Ask.{Ask}
-use Rattle.dht_brick.specs.declared.machines.Finish.{Finish}
+use Rattle.dht_section.specs.declared.machine.Ask.{Ask}
+use Rattle.dht_section.specs.declared.machine.Finish.{Finish}
 use Rattle.dht_brick.specs.declared.replies.Reply.{Reply}
-use Rattle.dht_section.specs.Scene.{Disk, Scene, Kept, Sound, Others, Earned, Permitted, Moved, Changes}
+use Rattle.dht_section.specs.Scene.{Disk, Scene, Kept, Sound, Others, Earned, Permitted, Moved, ChangesOneBrick}
+use Rattle.dht_section.specs.declared.caller.Caller.{Ghosts as CallerGhosts}
 use Rattle.dht_section.specs.Begins.{Begins}
 use Rattle.dht_section.proofs.KeptLaws.{SameDisk, kept_same, nat_cases}
 use Rattle.dht_section.proofs.MovedLaws.{kept_moved}
@@ -36,14 +36,14 @@ pub same_disk : (d : Disk) → SameDisk d d
 same_disk d = record { count = refl; each = λ b. refl }
 
 -- a running call of another client there is none, so no call but the one client's is new
-no_other : (s : Story) (f : ℕ → Option Running) → ((c : ℕ) → c ≢ 0 → s.running c ≡ None) → (o : Option Running) → (c : ℕ) (r : Running) → put nat_eq s.running 0 o c ≡ Some r → (c ≡ 0) × (o ≡ Some r)
+no_other : (s : History) (f : ℕ → Option PendingCall) → ((c : ℕ) → c ≢ 0 → s.pending c ≡ None) → (o : Option PendingCall) → (c : ℕ) (r : PendingCall) → put nat_eq s.pending 0 o c ≡ Some r → (c ≡ 0) × (o ≡ Some r)
 no_other s f alone o c r e = elim (nat_cases c 0) [
-  | inl q ↦ (q, sym (ap (put nat_eq s.running 0 o) q ∙ put_same nat_eq exact_nat s.running 0 o) ∙ e)
-  | inr ne ↦ absurd (let z : Some r ≡ None = sym e ∙ (put_other nat_eq exact_nat s.running 0 o c ne ∙ alone c ne) in cc)
+  | inl q ↦ (q, sym (ap (put nat_eq s.pending 0 o) q ∙ put_same nat_eq exact_nat s.pending 0 o) ∙ e)
+  | inr ne ↦ absurd (let z : Some r ≡ None = sym e ∙ (put_other nat_eq exact_nat s.pending 0 o c ne ∙ alone c ne) in cc)
 ]
 
-module _ {C : Type 0} (number : C → ClientNo) (is_busy : C → Bool) (knows_of : C → Scene → Type 0) (left : C → ℕ) (stable : (c : C) (s t : Scene) → knows_of c s → Others s t → knows_of c t) where
-  own_refused : (d : Disk) (s : Story) (c : C) (n : ℕ) (cause : Cause) (b : Bool) → MatchBool b (Works knows_of left d s c) (s.running 0 ≡ None) → MatchBool b (Works knows_of left d (told s (Refused n cause)) c) (s.running 0 ≡ None)
+module _ {C : Type 0} (g : CallerGhosts C) (stable : (c : C) (s t : Scene) → g.knows c s → Others s t → g.knows c t) where
+  own_refused : (d : Disk) (s : History) (c : C) (n : ℕ) (cause : Cause) (b : Bool) → MatchBool b (Works g d s c) (s.pending 0 ≡ None) → MatchBool b (Works g d (with_line s (Refused n cause)) c) (s.pending 0 ≡ None)
   own_refused d s c n cause true h =
       let begun = h.begun in
       record {
@@ -51,18 +51,18 @@ module _ {C : Type 0} (number : C → ClientNo) (is_busy : C → Bool) (knows_of
         runs = h.runs;
         number = h.number;
         begun = omega arith;
-        knows = stable c (scene d s client h.mine) (scene d (told s (Refused n cause)) client h.mine) h.knows (others_line d s client h.mine (Refused n cause) refl refl);
+        knows = stable c (scene d s client h.mine) (scene d (with_line s (Refused n cause)) client h.mine) h.knows (others_line d s client h.mine (Refused n cause) refl refl);
         in_time = h.in_time;
       }
   own_refused d s c n cause false h = h
 
   -- a refused event changes nothing
-  pub fit_refused : (d : Disk) (js : ℕ → List JournalEntry) (c : C) (ws : List ℕ) (run calls lines : ℕ) (s : Story) (n : ℕ) (cause : Cause) → Fit number is_busy knows_of left d js c ws run calls lines s → Fit number is_busy knows_of left d js c ws run calls (lines + 1) (told s (Refused n cause))
+  pub fit_refused : (d : Disk) (js : ℕ → List JournalEntry) (c : C) (ws : List ℕ) (run calls lines : ℕ) (s : History) (n : ℕ) (cause : Cause) → Fit g d js c ws run calls lines s → Fit g d js c ws run calls (lines + 1) (with_line s (Refused n cause))
   fit_refused d js c ws run calls lines s n cause h =
       let size = h.same_size in
       let fewer = h.fewer in
       record {
-        kept = kept_same d d s (told s (Refused n cause)) h.kept (same_disk d) (record { tree = refl; weights = refl; calls = omega arith; point = point_told s (Refused n cause); fresh = h.kept.fresh });
+        kept = kept_same d d s (with_line s (Refused n cause)) h.kept (same_disk d) (record { tree = refl; weights = refl; calls = omega arith; point = point_with_line s (Refused n cause); fresh = h.kept.fresh }) h.kept.sole;
         logged = record { steps = h.logged.steps; slots = h.logged.slots };
         same_weights = h.same_weights;
         same_run = h.same_run;
@@ -71,18 +71,18 @@ module _ {C : Type 0} (number : C → ClientNo) (is_busy : C → Bool) (knows_of
         fewer = omega arith;
         who = h.who;
         alone = h.alone;
-        own = own_refused d s c n cause (is_busy c) h.own;
+        own = own_refused d s c n cause (g.is_busy c) h.own;
       }
 
-  pub at_refused : (d : Disk) (js : ℕ → List JournalEntry) (c : C) (ws : List ℕ) (run calls lines : ℕ) (past : List Line) (n : ℕ) (cause : Cause) → At number is_busy knows_of left d js c ws run calls lines past → At number is_busy knows_of left d js c ws run calls (lines + 1) (past ++ Refused n cause ∷ [])
+  pub at_refused : (d : Disk) (js : ℕ → List JournalEntry) (c : C) (ws : List ℕ) (run calls lines : ℕ) (past : List Line) (n : ℕ) (cause : Cause) → At g d js c ws run calls lines past → At g d js c ws run calls (lines + 1) (past ++ Refused n cause ∷ [])
   at_refused d js c ws run calls lines past n cause h = record {
     legal = legal_lines past (Refused n cause ∷ []) h.legal (h.legal.whole, tt) refl;
     in_time = in_time_append start past (Refused n cause ∷ []) h.in_time (tt, tt);
-    fit = subst (λ (x : Story). Fit number is_busy knows_of left d js c ws run calls (lines + 1) x) (sym (told_more start past (Refused n cause))) (fit_refused d js c ws run calls lines (story_of past) n cause h.fit);
+    fit = subst (λ (x : History). Fit g d js c ws run calls (lines + 1) x) (sym (lines_more start past (Refused n cause))) (fit_refused d js c ws run calls lines (history_of past) n cause h.fit);
   }
 
   -- the call that began
-  begun_call : Story → CallNo → Call → Running
+  begun_call : History → CallNo → Call → PendingCall
   begun_call s k call = record { number = k; call = call; since = s.size + 1; steps = 0; deeds = None }
 
   idle_is : (X Y : Type 0) (b : Bool) → b ≡ false → MatchBool b X Y → Y
@@ -93,11 +93,11 @@ module _ {C : Type 0} (number : C → ClientNo) (is_busy : C → Bool) (knows_of
   busy_is X Y true e h = h
   busy_is X Y false e h = absurd (let z : false ≡ true = e in cc)
 
-  unknown_by : (d : Disk) (s : Story) (f : Gfid) (o : Option (List ℕ)) → Kept d s → s.tree.bytes f ≡ o → call_of f ≡ s.calls + 1 → o ≡ None
+  unknown_by : (d : Disk) (s : History) (f : Gfid) (o : Option (List ℕ)) → Kept d s → s.tree.bytes f ≡ o → call_of f ≡ s.calls + 1 → o ≡ None
   unknown_by d s f None k e h = refl
   unknown_by d s f (Some bytes) k e h = absurd (let l = k.known f (λ q. let z : Some bytes ≡ None = sym e ∙ q in cc) in omega arith)
 
-  pub fit_called : (d : Disk) (js : ℕ → List JournalEntry) (old new : C) (ws : List ℕ) (run calls lines : ℕ) (s : Story) (k : CallNo) (call : Call) → is_busy old ≡ false → is_busy new ≡ true → number new ≡ number old → k.0 ≡ calls + 1 → ((x : Scene) → Begins (number old) ws run k call x → knows_of new x) → left new ≤ cost (length ws) call → Fit number is_busy knows_of left d js old ws run calls lines s → Fit number is_busy knows_of left d js new ws run (calls + 1) (lines + 1) (told s (Called k client call))
+  pub fit_called : (d : Disk) (js : ℕ → List JournalEntry) (old new : C) (ws : List ℕ) (run calls lines : ℕ) (s : History) (k : CallNo) (call : Call) → g.is_busy old ≡ false → g.is_busy new ≡ true → g.number new ≡ g.number old → k.0 ≡ calls + 1 → ((x : Scene) → Begins (g.number old) ws run k call x → g.knows new x) → g.left new ≤ cost (length ws) call → Fit g d js old ws run calls lines s → Fit g d js new ws run (calls + 1) (lines + 1) (with_line s (Called k client call))
   unfolding begun_call
   fit_called d js old new ws run calls lines s k call idle busy same ek begins bound h =
       let size = h.same_size in
@@ -105,25 +105,25 @@ module _ {C : Type 0} (number : C → ClientNo) (is_busy : C → Bool) (knows_of
       let count = h.same_calls in
       let x = Called k client call in
       let r = begun_call s k call in
-      let works : Works knows_of left d (told s x) new = record {
+      let works : Works g d (with_line s x) new = record {
         mine = r;
-        runs = put_same nat_eq exact_nat s.running 0 (Some r);
+        runs = put_same nat_eq exact_nat s.pending 0 (Some r);
         number = omega arith;
         begun = omega arith;
-        knows = begins (scene d (told s x) client r) (record { who = sym h.who; weights = h.same_weights; run = h.same_run; number = refl; call = refl; fresh = refl });
-        in_time = (let l : left new ≤ cost (length s.weights) call = subst (λ (y : List ℕ). left new ≤ cost (length y) call) (sym h.same_weights) bound in omega arith);
+        knows = begins (scene d (with_line s x) client r) (record { who = sym h.who; weights = h.same_weights; run = h.same_run; number = refl; call = refl; fresh = refl });
+        in_time = (let l : g.left new ≤ cost (length s.weights) call = subst (λ (y : List ℕ). g.left new ≤ cost (length y) call) (sym h.same_weights) bound in omega arith);
       } in
       record {
-        kept = kept_same d d s (told s x) h.kept (same_disk d) (record {
+        kept = kept_same d d s (with_line s x) h.kept (same_disk d) (record {
           tree = refl;
           weights = refl;
           calls = omega arith;
-          point = point_told s x;
-          fresh = λ c o e1 e2 f e3. (let q = no_other s s.running h.alone (Some r) c o e1 in
+          point = point_with_line s x;
+          fresh = λ c o e1 e2 f e3. (let q = no_other s s.pending h.alone (Some r) c o e1 in
               let w : r ≡ o = (let z : Some r ≡ Some o = q.1 in cc) in
-              let e4 : r.number.0 ≡ o.number.0 = ap (λ (y : Running). y.number.0) w in
+              let e4 : r.number.0 ≡ o.number.0 = ap (λ (y : PendingCall). y.number.0) w in
               unknown_by d s f (s.tree.bytes f) h.kept refl (omega arith));
-        });
+        }) h.kept.sole;
         logged = record { steps = h.logged.steps; slots = h.logged.slots };
         same_weights = h.same_weights;
         same_run = h.same_run;
@@ -131,43 +131,43 @@ module _ {C : Type 0} (number : C → ClientNo) (is_busy : C → Bool) (knows_of
         same_size = omega arith;
         fewer = omega arith;
         who = same ∙ h.who;
-        alone = λ c ne. put_other nat_eq exact_nat s.running 0 (Some r) c ne ∙ h.alone c ne;
-        own = subst (λ (b : Bool). MatchBool b (Works knows_of left d (told s x) new) ((told s x).running 0 ≡ None)) (sym busy) works;
+        alone = λ c ne. put_other nat_eq exact_nat s.pending 0 (Some r) c ne ∙ h.alone c ne;
+        own = subst (λ (b : Bool). MatchBool b (Works g d (with_line s x) new) ((with_line s x).pending 0 ≡ None)) (sym busy) works;
       }
 
-  pub at_called : (d : Disk) (js : ℕ → List JournalEntry) (old new : C) (ws : List ℕ) (run calls lines : ℕ) (past : List Line) (k : CallNo) (call : Call) → is_busy old ≡ false → is_busy new ≡ true → number new ≡ number old → k.0 ≡ calls + 1 → ((x : Scene) → Begins (number old) ws run k call x → knows_of new x) → left new ≤ cost (length ws) call → At number is_busy knows_of left d js old ws run calls lines past → At number is_busy knows_of left d js new ws run (calls + 1) (lines + 1) (past ++ Called k client call ∷ [])
+  pub at_called : (d : Disk) (js : ℕ → List JournalEntry) (old new : C) (ws : List ℕ) (run calls lines : ℕ) (past : List Line) (k : CallNo) (call : Call) → g.is_busy old ≡ false → g.is_busy new ≡ true → g.number new ≡ g.number old → k.0 ≡ calls + 1 → ((x : Scene) → Begins (g.number old) ws run k call x → g.knows new x) → g.left new ≤ cost (length ws) call → At g d js old ws run calls lines past → At g d js new ws run (calls + 1) (lines + 1) (past ++ Called k client call ∷ [])
   at_called d js old new ws run calls lines past k call idle busy same ek begins bound h =
       let count = h.fit.same_calls in
       record {
-        legal = legal_lines past (Called k client call ∷ []) h.legal ((h.legal.whole, omega arith, idle_is _ _ (is_busy old) idle h.fit.own), tt) refl;
+        legal = legal_lines past (Called k client call ∷ []) h.legal ((h.legal.whole, omega arith, idle_is _ _ (g.is_busy old) idle h.fit.own), tt) refl;
         in_time = in_time_append start past (Called k client call ∷ []) h.in_time (tt, tt);
-        fit = subst (λ (x : Story). Fit number is_busy knows_of left d js new ws run (calls + 1) (lines + 1) x) (sym (told_more start past (Called k client call))) (fit_called d js old new ws run calls lines (story_of past) k call idle busy same ek begins bound h.fit);
+        fit = subst (λ (x : History). Fit g d js new ws run (calls + 1) (lines + 1) x) (sym (lines_more start past (Called k client call))) (fit_called d js old new ws run calls lines (history_of past) k call idle busy same ek begins bound h.fit);
       }
 
   -- all that one request leads to
-  pub record Advanced (asks : C → Ask) (d : Disk) (s : Story) (c : C) (k : CallNo) (a : Ask) (r : Reply) (e : Disk) (ks : ℕ → List JournalEntry) : Type 0 where
-    pub works : Works knows_of left d s c
+  pub record Advanced (d : Disk) (s : History) (c : C) (k : CallNo) (a : Ask) (r : Reply) (e : Disk) (ks : ℕ → List JournalEntry) : Type 0 where
+    pub works : Works g d s c
     pub call_is : works.mine.number ≡ k
     pub went : Went d s works.mine a r e ks (request_lines k client a r)
-    pub kept : Kept e (told_all s (request_lines k client a r))
+    pub kept : Kept e (with_lines s (request_lines k client a r))
     pub before : Sound (scene d s client works.mine)
-    pub after : Sound (scene e (told_all s (request_lines k client a r)) client went.mine_then)
-    pub moved : Moved (scene d s client works.mine) (asks c) r (scene e (told_all s (request_lines k client a r)) client went.mine_then)
+    pub after : Sound (scene e (with_lines s (request_lines k client a r)) client went.mine_then)
+    pub moved : Moved (scene d s client works.mine) (g.asks c) r (scene e (with_lines s (request_lines k client a r)) client went.mine_then)
 
   number_is : (k : CallNo) (m : CallNo) → m.0 ≡ k.0 → m ≡ k
   number_is k m h = ap (λ (n : ℕ). let x : CallNo = record { 0 = n } in x) h
 
-  pub advance : (asks : C → Ask) (permitted : (c : C) (x : Scene) → Sound x → is_busy c ≡ true → knows_of c x → Permitted x (asks c)) (d e : Disk) (js ks : ℕ → List JournalEntry) (c : C) (ws : List ℕ) (run calls lines : ℕ) (past : List Line) (k : CallNo) (a : Ask) (r : Reply) (after : Contents) → is_busy c ≡ true → 0 < left c → a ≡ asks c → k.0 ≡ calls → lines < 2 ^ 64 → Serves (row (replay_names d.count) client k a.request (d.brick a.brick.0)) (d.brick a.brick.0) r after → Changes d a.brick.0 after e → ks ≡ put nat_eq js a.brick.0 (js a.brick.0 ++ entry_of client k a.request r ∷ []) → At number is_busy knows_of left d js c ws run calls lines past → Advanced asks d (story_of past) c k a r e ks
-  advance asks permitted d e js ks c ws run calls lines past k a r new busy some ea ek small served changes noted h =
-      let s = story_of past in
+  pub advance : (permitted : (c : C) (x : Scene) → Sound x → g.is_busy c ≡ true → g.knows c x → Permitted x (g.asks c)) (d e : Disk) (js ks : ℕ → List JournalEntry) (c : C) (ws : List ℕ) (run calls lines : ℕ) (past : List Line) (k : CallNo) (a : Ask) (r : Reply) (after : Contents) → g.is_busy c ≡ true → 0 < g.left c → a ≡ g.asks c → k.0 ≡ calls → lines < 2 ^ 64 → Serves (row (replay_names d.count) client k a.request (d.brick a.brick.0)) (d.brick a.brick.0) r after → ChangesOneBrick d a.brick.0 after e → ks ≡ put nat_eq js a.brick.0 (js a.brick.0 ++ entry_of client k a.request r ∷ []) → At g d js c ws run calls lines past → Advanced d (history_of past) c k a r e ks
+  advance permitted d e js ks c ws run calls lines past k a r new busy some ea ek small served changes noted h =
+      let s = history_of past in
       let f = h.fit in
       let fewer = f.fewer in
       let count = f.same_calls in
-      let works : Works knows_of left d s c = busy_is _ _ (is_busy c) busy f.own in
+      let works : Works g d s c = busy_is _ _ (g.is_busy c) busy f.own in
       let n = works.number in
       let l = works.in_time in
       let call_is : works.mine.number ≡ k = number_is k works.mine.number (omega arith) in
-      let before : Sound (scene d s client works.mine) = record { kept = f.kept; runs = works.runs; begun = works.begun } in
+      let before : Sound (scene d s client works.mine) = record { kept = f.kept; first = refl; runs = works.runs; begun = works.begun } in
       let sent : Sent d js s works.mine k a r e ks = record {
         kept = f.kept;
         logged = f.logged;
@@ -187,43 +187,43 @@ module _ {C : Type 0} (number : C → ClientNo) (is_busy : C → Bool) (knows_of
         journals = noted;
       } in
       let w = went d js s works.mine k a r e ks sent in
-      let kept = kept_moved (scene d s client works.mine) (scene e (told_all s (request_lines k client a r)) client w.mine_then) a r w.moved before sent.permitted w.tale in
+      let kept = kept_moved (scene d s client works.mine) (scene e (with_lines s (request_lines k client a r)) client w.mine_then) a r w.moved before sent.permitted w.tale in
       record {
         works = works;
         call_is = call_is;
         went = w;
         kept = kept;
         before = before;
-        after = record { kept = kept; runs = w.runs; begun = w.begun };
-        moved = subst (λ (x : Ask). Moved (scene d s client works.mine) x r (scene e (told_all s (request_lines k client a r)) client w.mine_then)) ea w.moved;
+        after = record { kept = kept; first = refl; runs = w.runs; begun = w.begun };
+        moved = subst (λ (x : Ask). Moved (scene d s client works.mine) x r (scene e (with_lines s (request_lines k client a r)) client w.mine_then)) ea w.moved;
       }
 
-  pub at_on : (asks : C → Ask) (d e : Disk) (js ks : ℕ → List JournalEntry) (old new : C) (ws : List ℕ) (run calls lines : ℕ) (past : List Line) (k : CallNo) (a : Ask) (r : Reply) → (g : Advanced asks d (story_of past) old k a r e ks) → number new ≡ number old → is_busy new ≡ true → knows_of new (scene e (told_all (story_of past) (request_lines k client a r)) client g.went.mine_then) → left new < left old → At number is_busy knows_of left d js old ws run calls lines past → At number is_busy knows_of left e ks new ws run calls (lines + length (request_lines k client a r)) (past ++ request_lines k client a r)
-  at_on asks d e js ks old new ws run calls lines past k a r g same busy knows fewer_left h =
-      let s = story_of past in
-      let t = told_all s (request_lines k client a r) in
-      let w = g.went in
+  pub at_on : (d e : Disk) (js ks : ℕ → List JournalEntry) (old new : C) (ws : List ℕ) (run calls lines : ℕ) (past : List Line) (k : CallNo) (a : Ask) (r : Reply) → (v : Advanced d (history_of past) old k a r e ks) → g.number new ≡ g.number old → g.is_busy new ≡ true → g.knows new (scene e (with_lines (history_of past) (request_lines k client a r)) client v.went.mine_then) → g.left new < g.left old → At g d js old ws run calls lines past → At g e ks new ws run calls (lines + length (request_lines k client a r)) (past ++ request_lines k client a r)
+  at_on d e js ks old new ws run calls lines past k a r v same busy knows fewer_left h =
+      let s = history_of past in
+      let t = with_lines s (request_lines k client a r) in
+      let w = v.went in
       let f = h.fit in
       let size = w.size in
       let old_size = f.same_size in
       let fewer = f.fewer in
       let steps = w.steps in
-      let in_time = g.works.in_time in
+      let in_time = v.works.in_time in
       let calls_then = w.tale.calls in
       let count = f.same_calls in
-      let n = g.works.number in
-      let number_then : w.mine_then.number ≡ g.works.mine.number = w.moved.number in
-      let works : Works knows_of left e t new = record {
+      let n = v.works.number in
+      let number_then : w.mine_then.number ≡ v.works.mine.number = w.moved.number in
+      let works : Works g e t new = record {
         mine = w.mine_then;
         runs = w.runs;
         number = (let z = ap (λ (x : CallNo). x.0) number_then in omega arith);
         begun = w.begun;
         knows = knows;
-        in_time = subst (λ (x : Call). w.mine_then.steps + left new ≤ cost (length t.weights) x) (sym w.same_call)
-            (subst (λ (y : List ℕ). w.mine_then.steps + left new ≤ cost (length y) g.works.mine.call) (sym w.same_weights) (omega arith));
+        in_time = subst (λ (x : Call). w.mine_then.steps + g.left new ≤ cost (length t.weights) x) (sym w.same_call)
+            (subst (λ (y : List ℕ). w.mine_then.steps + g.left new ≤ cost (length y) v.works.mine.call) (sym w.same_weights) (omega arith));
       } in
-      let fit : Fit number is_busy knows_of left e ks new ws run calls (lines + length (request_lines k client a r)) t = record {
-        kept = g.kept;
+      let fit : Fit g e ks new ws run calls (lines + length (request_lines k client a r)) t = record {
+        kept = v.kept;
         logged = w.logged;
         same_weights = w.same_weights ∙ f.same_weights;
         same_run = w.same_run ∙ f.same_run;
@@ -232,39 +232,39 @@ module _ {C : Type 0} (number : C → ClientNo) (is_busy : C → Bool) (knows_of
         fewer = omega arith;
         who = same ∙ f.who;
         alone = w.alone;
-        own = subst (λ (b : Bool). MatchBool b (Works knows_of left e t new) (t.running 0 ≡ None)) (sym busy) works;
+        own = subst (λ (b : Bool). MatchBool b (Works g e t new) (t.pending 0 ≡ None)) (sym busy) works;
       } in
       record {
         legal = legal_lines past (request_lines k client a r) h.legal w.legal w.owed;
         in_time = in_time_append start past (request_lines k client a r) h.in_time w.in_time;
-        fit = subst (λ (x : Story). Fit number is_busy knows_of left e ks new ws run calls (lines + length (request_lines k client a r)) x) (sym (told_append start past (request_lines k client a r))) fit;
+        fit = subst (λ (x : History). Fit g e ks new ws run calls (lines + length (request_lines k client a r)) x) (sym (lines_append start past (request_lines k client a r))) fit;
       }
 
-  pub at_answered : (asks : C → Ask) (d e : Disk) (js ks : ℕ → List JournalEntry) (old new : C) (ws : List ℕ) (run calls lines : ℕ) (past : List Line) (k : CallNo) (a : Ask) (r : Reply) (y : Finish) → (g : Advanced asks d (story_of past) old k a r e ks) → number new ≡ number old → is_busy new ≡ false → Earned y (scene e (told_all (story_of past) (request_lines k client a r)) client g.went.mine_then) → At number is_busy knows_of left d js old ws run calls lines past → At number is_busy knows_of left e ks new ws run calls (lines + length (request_lines k client a r) + 1) (past ++ (request_lines k client a r ++ Answered k client y.at y.answer ∷ []))
-  at_answered asks d e js ks old new ws run calls lines past k a r y g same idle earned h =
-      let s = story_of past in
+  pub at_answered : (d e : Disk) (js ks : ℕ → List JournalEntry) (old new : C) (ws : List ℕ) (run calls lines : ℕ) (past : List Line) (k : CallNo) (a : Ask) (r : Reply) (y : Finish) → (v : Advanced d (history_of past) old k a r e ks) → g.number new ≡ g.number old → g.is_busy new ≡ false → Earned y (scene e (with_lines (history_of past) (request_lines k client a r)) client v.went.mine_then) → At g d js old ws run calls lines past → At g e ks new ws run calls (lines + length (request_lines k client a r) + 1) (past ++ (request_lines k client a r ++ Answered k client y.at y.answer ∷ []))
+  at_answered d e js ks old new ws run calls lines past k a r y v same idle earned h =
+      let s = history_of past in
       let xs = request_lines k client a r in
-      let t = told_all s xs in
+      let t = with_lines s xs in
       let x = Answered k client y.at y.answer in
-      let u = told t x in
-      let w = g.went in
+      let u = with_line t x in
+      let w = v.went in
       let f = h.fit in
       let size = w.size in
       let old_size = f.same_size in
       let fewer = f.fewer in
       let calls_then = w.tale.calls in
       let count = f.same_calls in
-      let number_then : w.mine_then.number ≡ k = w.moved.number ∙ g.call_is in
-      let all : told_all s (xs ++ x ∷ []) ≡ u = told_append s xs (x ∷ []) in
+      let number_then : w.mine_then.number ≡ k = w.moved.number ∙ v.call_is in
+      let all : with_lines s (xs ++ x ∷ []) ≡ u = lines_append s xs (x ∷ []) in
       let legal_all : LegalFrom s (xs ++ x ∷ []) = legal_append s xs (x ∷ []) w.legal ((w.owed, (w.mine_then, record { runs = w.runs; number = number_then }, earned)), tt) in
-      let fit : Fit number is_busy knows_of left e ks new ws run calls (lines + length xs + 1) u = record {
-        kept = kept_same e e t u g.kept (same_disk e) (record {
+      let fit : Fit g e ks new ws run calls (lines + length xs + 1) u = record {
+        kept = kept_same e e t u v.kept (same_disk e) (record {
           tree = refl;
           weights = refl;
           calls = omega arith;
-          point = point_told t x;
-          fresh = λ c o e1 e2 b e3. absurd (let q = no_other t t.running w.alone None c o e1 in let z : None ≡ Some o = q.1 in cc);
-        });
+          point = point_with_line t x;
+          fresh = λ c o e1 e2 b e3. absurd (let q = no_other t t.pending w.alone None c o e1 in let z : None ≡ Some o = q.1 in cc);
+        }) v.kept.sole;
         logged = record { steps = w.logged.steps; slots = w.logged.slots };
         same_weights = w.same_weights ∙ f.same_weights;
         same_run = w.same_run ∙ f.same_run;
@@ -272,18 +272,18 @@ module _ {C : Type 0} (number : C → ClientNo) (is_busy : C → Bool) (knows_of
         same_size = omega arith;
         fewer = omega arith;
         who = same ∙ f.who;
-        alone = λ c ne. put_other nat_eq exact_nat t.running 0 None c ne ∙ w.alone c ne;
-        own = subst (λ (b : Bool). MatchBool b (Works knows_of left e u new) (u.running 0 ≡ None)) (sym idle) (put_same nat_eq exact_nat t.running 0 None);
+        alone = λ c ne. put_other nat_eq exact_nat t.pending 0 None c ne ∙ w.alone c ne;
+        own = subst (λ (b : Bool). MatchBool b (Works g e u new) (u.pending 0 ≡ None)) (sym idle) (put_same nat_eq exact_nat t.pending 0 None);
       } in
       record {
-        legal = legal_lines past (xs ++ x ∷ []) h.legal legal_all (ap (λ (z : Story). z.owed) all);
+        legal = legal_lines past (xs ++ x ∷ []) h.legal legal_all (ap (λ (z : History). z.owed) all);
         in_time = in_time_append start past (xs ++ x ∷ []) h.in_time (in_time_append s xs (x ∷ []) w.in_time (tt, tt));
-        fit = subst (λ (z : Story). Fit number is_busy knows_of left e ks new ws run calls (lines + length xs + 1) z) (sym (told_append start past (xs ++ x ∷ []) ∙ all)) fit;
+        fit = subst (λ (z : History). Fit g e ks new ws run calls (lines + length xs + 1) z) (sym (lines_append start past (xs ++ x ∷ []) ∙ all)) fit;
       }
 
   -- what is known of the client's own call, as an event meets it
-  pub idle_call : (d : Disk) (js : ℕ → List JournalEntry) (c : C) (ws : List ℕ) (run calls lines : ℕ) (past : List Line) → is_busy c ≡ false → At number is_busy knows_of left d js c ws run calls lines past → (story_of past).running 0 ≡ None
-  idle_call d js c ws run calls lines past idle h = idle_is _ _ (is_busy c) idle h.fit.own
+  pub idle_call : (d : Disk) (js : ℕ → List JournalEntry) (c : C) (ws : List ℕ) (run calls lines : ℕ) (past : List Line) → g.is_busy c ≡ false → At g d js c ws run calls lines past → (history_of past).pending 0 ≡ None
+  idle_call d js c ws run calls lines past idle h = idle_is _ _ (g.is_busy c) idle h.fit.own
 
-  pub busy_call : (d : Disk) (js : ℕ → List JournalEntry) (c : C) (ws : List ℕ) (run calls lines : ℕ) (past : List Line) → is_busy c ≡ true → At number is_busy knows_of left d js c ws run calls lines past → Works knows_of left d (story_of past) c
-  busy_call d js c ws run calls lines past busy h = busy_is _ _ (is_busy c) busy h.fit.own
+  pub busy_call : (d : Disk) (js : ℕ → List JournalEntry) (c : C) (ws : List ℕ) (run calls lines : ℕ) (past : List Line) → g.is_busy c ≡ true → At g d js c ws run calls lines past → Works g d (history_of past) c
+  busy_call d js c ws run calls lines past busy h = busy_is _ _ (g.is_busy c) busy h.fit.own

@@ -5,34 +5,34 @@ use Rattle.dht_types.specs.Put.{put}
 use Rattle.dht_types.proofs.PutLaws.{put_elim, put_same, put_other, exact_nat}
 use Rattle.dht_types.specs.Gfid.{Entry}
 use Rattle.dht_types.specs.Tree.{Tree}
-use Rattle.dht_types.specs.Story.{Story, Running, told, told_all, start, story_of, LegalFrom, Legal, tree_after, weights_after, is_change}
-use Rattle.dht_types.proofs.StoryLaws.{told_append, legal_append, past_told}
+use Rattle.dht_types.specs.History.{History, PendingCall, with_line, with_lines, start, history_of, LegalFrom, Legal, tells, is_change}
+use Rattle.dht_types.proofs.HistoryLaws.{lines_append, legal_append, past_with_line, run_with_line}
 use Rattle.dht_types.specs.declared.identifiers.ClientNo.{ClientNo}
 use Rattle.dht_types.specs.declared.lines.Line.{Line}
 use Rattle.dht_brick.specs.declared.journal.JournalEntry.{JournalEntry}
 use Rattle.dht_section.specs.Scene.{Disk, Others}
-use Rattle.dht_world.specs.Bricks.{shown, changed_slots}
+use Rattle.dht_world.specs.Bricks.{act_of, changed_slots}
 use Rattle.dht_world.specs.Following.{InTimeFrom}
 use Rattle.dht_world.specs.World.{scene}
 
-pub in_time_append : (s : Story) (xs ys : List Line) → InTimeFrom s xs → InTimeFrom (told_all s xs) ys → InTimeFrom s (xs ++ ys)
+pub in_time_append : (s : History) (xs ys : List Line) → InTimeFrom s xs → InTimeFrom (with_lines s xs) ys → InTimeFrom s (xs ++ ys)
 in_time_append s [] ys l k = k
-in_time_append s (x ∷ xs) ys l k = (l.0, in_time_append (told s x) xs ys l.1 k)
+in_time_append s (x ∷ xs) ys l k = (l.0, in_time_append (with_line s x) xs ys l.1 k)
 
 -- lines that may come, after which no tree line is owed
-pub legal_lines : (past lines : List Line) → Legal past → LegalFrom (story_of past) lines → (told_all (story_of past) lines).owed ≡ None → Legal (past ++ lines)
+pub legal_lines : (past lines : List Line) → Legal past → LegalFrom (history_of past) lines → (with_lines (history_of past) lines).owed ≡ None → Legal (past ++ lines)
 legal_lines past lines l k e = record {
   from = legal_append start past lines l.from k;
-  whole = ap (λ (s : Story). s.owed) (told_append start past lines) ∙ e;
+  whole = ap (λ (s : History). s.owed) (lines_append start past lines) ∙ e;
 }
 
 -- a line that leaves tree and volume as they are does what others may do
-pub others_line : (d : Disk) (s : Story) (c : ClientNo) (r : Running) (x : Line) → tree_after s x ≡ s.tree → weights_after s x ≡ s.weights → Others (scene d s c r) (scene d (told s x) c r)
+pub others_line : (d : Disk) (s : History) (c : ClientNo) (r : PendingCall) (x : Line) → (tells s x).tree ≡ s.tree → (tells s x).weights ≡ s.weights → Others (scene d s c r) (scene d (with_line s x) c r)
 others_line d s c r x et ew = record {
   who = refl;
   mine = refl;
   count = refl;
-  run = refl;
+  run = run_with_line s x;
   weights = ew;
   locks = λ g key mode h. h;
   slots = λ g n h b. refl;
@@ -40,15 +40,15 @@ others_line d s c r x et ew = record {
   dirs = λ g. ap (λ (t : Tree). t.dirs g) et;
   ranges = λ g b. refl;
   later = omega arith;
-  past = past_told s x;
+  past = past_with_line s x;
 }
 
 map_more : {A B : Type 0} (f : A → B) (xs : List A) (x : A) → map f (xs ++ x ∷ []) ≡ map f xs ++ f x ∷ []
 map_more f [] x = refl
 map_more f (y ∷ ys) x = ap (λ zs. f y ∷ zs) (map_more f ys x)
 
-pub shown_more : (es : List JournalEntry) (e : JournalEntry) → map shown (es ++ e ∷ []) ≡ map shown es ++ shown e ∷ []
-shown_more es e = map_more shown es e
+pub acts_more : (es : List JournalEntry) (e : JournalEntry) → map act_of (es ++ e ∷ []) ≡ map act_of es ++ act_of e ∷ []
+acts_more es e = map_more act_of es e
 
 slots_by : (e : JournalEntry) (b : Bool) (xs : List Entry) → List Entry
 slots_by e b xs = if b then (e.gfid, e.name) ∷ xs else xs

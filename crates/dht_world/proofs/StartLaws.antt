@@ -6,22 +6,24 @@ use Rattle.std.proofs.lemmas.List.{take_all}
 use Rattle.std.proofs.lemmas.Bool.{cases_lt}
 use Rattle.std.specs.FinMap.{empty, get-empty}
 use Rattle.dht_types.proofs.PutLaws.{exact_gfid}
-use Rattle.dht_types.proofs.StoryLaws.{point_told}
+use Rattle.dht_types.proofs.HistoryLaws.{point_with_line}
 use Rattle.dht_types.specs.Gfid.{Entry, root, home, same_gfid}
-use Rattle.dht_types.specs.Story.{Story, told, start}
+use Rattle.dht_types.specs.History.{History, with_line, start}
 use Rattle.dht_types.specs.declared.identifiers.Gfid.{Gfid}
-use Rattle.dht_types.specs.declared.identifiers.ClientNo.{ClientNo}
 use Rattle.dht_types.specs.declared.stored.DirRecord.{DirRecord}
 use Rattle.dht_types.specs.declared.lines.Line.TheVariants.{Volume}
 use Rattle.dht_types.specs.declared.events.Event.TheVariants as event
-use Rattle.dht_xattr.specs.RangeLaws.{decoded_encoded}
-use Rattle.dht_xattr.specs.Plan.{HasWeight, IsPlanned, planned, value_of}
-use Rattle.dht_xattr.specs.PlanLaws.{planned_length, planned_valid}
+use Rattle.dht_xattr.proofs.RangeLaws.{decoded_encoded}
+use Rattle.dht_types.specs.Volume.{HasWeight}
+use Rattle.dht_xattr.specs.Plan.{IsPlanned, planned, value_of}
+use Rattle.dht_xattr.proofs.PlanLaws.{planned_length, planned_valid}
 use Rattle.dht_xattr.specs.declared.range.Range.{Range}
 use Rattle.dht_brick.specs.Contents.{Contents, newborn, slot, dir, file, bare, gfid_cmp, entry_cmp}
 use Rattle.dht_brick.specs.declared.journal.JournalEntry.{JournalEntry}
+use Rattle.dht_section.specs.declared.caller.Caller.{Ghosts as CallerGhosts}
 use Rattle.dht_section.specs.Scene.{Disk, Scene, Kept, file_in, slot_at, name_at, file_at, range_of_value, range_of, range_at, ranges_below, layout_of}
-use Rattle.dht_section.proofs.ContentsLaws.{gfid_total, gfid_exact, get_at, get_off}
+use Rattle.dht_brick.proofs.TableLemmas.{gfid_total, gfid_exact}
+use Rattle.dht_section.proofs.ContentsLaws.{get_at, get_off}
 use Rattle.dht_section.proofs.KeptLaws.{cases}
 use Rattle.dht_world.specs.Bricks.{AreNewborn, nothing}
 use Rattle.dht_world.specs.Following.{Block}
@@ -99,7 +101,7 @@ root_home ws d js h some g = elim (cases_lt (home g) d.count) [
   | inr l ↦ is_not g (λ e. let z : home g ≡ 0 = ap home e in absurd (omega arith)) ∙ sym (ap (λ (c : Contents). is_some (dir c.store g)) (h.elsewhere (home g) l) ∙ ap is_some (get-empty gfid_cmp g))
 ]
 
-kept_start : (d : Disk) (js : ℕ → List JournalEntry) (ws : List ℕ) → AreNewborn ws d js → HasWeight ws → d.count ≡ length ws → 0 < d.count → d.count ≤ 32 → Kept d (told start (Volume ws))
+kept_start : (d : Disk) (js : ℕ → List JournalEntry) (ws : List ℕ) → AreNewborn ws d js → HasWeight ws → d.count ≡ length ws → 0 < d.count → d.count ≤ 32 → Kept d (with_line start (Volume ws))
 kept_start d js ws h heavy count some few = record {
   stands = record { names = λ e b l. no_name ws d js h b e; dirs = root_home ws d js h some; bytes = λ f b l. no_file ws d js h b f };
   one = λ e b i f g lb li hb hi. absurd (let z : Some f ≡ None = sym hb ∙ no_name ws d js h b e in cc);
@@ -113,19 +115,20 @@ kept_start d js ws h heavy count some few = record {
   some_brick = some;
   counted = count;
   few = few;
-  point = point_told start (Volume ws);
+  point = point_with_line start (Volume ws);
   known = λ f ne. absurd (ne refl);
   fresh = λ c r e1 e2 f e3. refl;
+  sole = λ b c k ne. each_new (λ x. x.locks k c ≡ None) ws d js h (λ v. refl) refl b;
 }
 
 -- before the first event after the volume line
-pub at_start : {C : Type 0} (number : C → ClientNo) (is_busy : C → Bool) (knows_of : C → Scene → Type 0) (left : C → ℕ) (d : Disk) (js : ℕ → List JournalEntry) (c : C) (ws : List ℕ) → AreNewborn ws d js → HasWeight ws → d.count ≡ length ws → 0 < d.count → d.count ≤ 32 → number c ≡ record { 0 = 0 } → is_busy c ≡ false → At number is_busy knows_of left d js c ws 1 0 1 (Volume ws ∷ [])
-at_start number is_busy knows_of left d js c ws h heavy count some few who idle = record {
+pub at_start : {C : Type 0} (g : CallerGhosts C) (d : Disk) (js : ℕ → List JournalEntry) (c : C) (ws : List ℕ) → AreNewborn ws d js → HasWeight ws → d.count ≡ length ws → 0 < d.count → d.count ≤ 32 → g.number c ≡ record { 0 = 0 } → g.is_busy c ≡ false → At g d js c ws 1 0 1 (Volume ws ∷ [])
+at_start g d js c ws h heavy count some few who idle = record {
   legal = record { from = (refl, tt); whole = refl };
   in_time = (tt, tt);
   fit = record {
     kept = kept_start d js ws h heavy count some few;
-    logged = record { steps = λ b. ap (Rattle.std.specs.Prelude.map Rattle.dht_world.specs.Bricks.shown) (h.journals b); slots = λ b. ap Rattle.dht_world.specs.Bricks.changed_slots (h.journals b) };
+    logged = record { steps = λ b. ap (Rattle.std.specs.Prelude.map Rattle.dht_world.specs.Bricks.act_of) (h.journals b); slots = λ b. ap Rattle.dht_world.specs.Bricks.changed_slots (h.journals b) };
     same_weights = refl;
     same_run = refl;
     same_calls = refl;
@@ -133,9 +136,9 @@ at_start number is_busy knows_of left d js c ws h heavy count some few who idle 
     fewer = omega arith;
     who = who;
     alone = λ e ne. refl;
-    own = subst (λ (b : Bool). MatchBool b (Works knows_of left d (told start (Volume ws)) c) ((told start (Volume ws)).running 0 ≡ None)) (sym idle) (refl {a = (told start (Volume ws)).running 0});
+    own = subst (λ (b : Bool). MatchBool b (Works g d (with_line start (Volume ws)) c) ((with_line start (Volume ws)).pending 0 ≡ None)) (sym idle) (refl {a = (with_line start (Volume ws)).pending 0});
   };
 }
 
-pub block_start : (s : Story) (ws : List ℕ) → Block s 1 (event.Volume ws) (Volume ws ∷ [])
-block_start s ws = record { first = Volume ws; more = []; all = refl; is_head = refl; are_under = tt }
+pub block_start : (s : History) (ws : List ℕ) → Block s 1 (event.Volume ws) (Volume ws ∷ [])
+block_start s ws = record { first = Volume ws; more = []; all = refl; is_head = refl; is_under = refl }

@@ -2,8 +2,8 @@
 use Rattle.std.specs.Prelude.{ℕ, ◌≡◌, ◌<◌, ◌≤◌, true, false, if◌then◌else◌, Option, Some, None, List, [], ◌∷◌, ◌++◌, map, length, slice_get, nat_eq}
 use Rattle.std.specs.FinMap.{empty}
 use Rattle.dht_types.specs.Gfid.{Entry, root}
-use Rattle.dht_types.specs.Story.{Story, Act, is_change}
-use Rattle.dht_types.specs.Volume.{replay_names}
+use Rattle.dht_types.specs.History.{History, Act, is_change}
+use Rattle.dht_types.specs.Volume.{VolumeInfo, replay_names}
 use Rattle.dht_xattr.specs.Plan.{planned_value}
 use Rattle.dht_brick.specs.Bricks.{BrickState}
 use Rattle.dht_brick.specs.Contents.{Contents, newborn, no_opens, no_locks}
@@ -12,11 +12,11 @@ use Rattle.dht_brick.specs.Outcome.{Serves}
 use Rattle.dht_brick.specs.Rows.{row}
 use Rattle.dht_brick.specs.declared.journal.JournalEntry.{JournalEntry}
 use Rattle.dht_brick.specs.declared.replies.Reply.{Reply}
-use Rattle.dht_brick.specs.declared.machines.Ask.{Ask}
+use Rattle.dht_section.specs.declared.machine.Ask.{Ask}
 use Rattle.dht_types.specs.Put.{put}
 use Rattle.dht_types.specs.declared.identifiers.ClientNo.{ClientNo}
 use Rattle.dht_types.specs.declared.identifiers.CallNo.{CallNo}
-use Rattle.dht_section.specs.Scene.{Disk, Changes}
+use Rattle.dht_section.specs.Scene.{Disk, ChangesOneBrick}
 
 -- where there is no brick there is nothing
 abbrev pub nothing : Contents
@@ -38,24 +38,29 @@ disk_of state bricks = record { count = length bricks; brick = λ i. contents_at
 abbrev pub journals_of : {B : Type 0} → (B → BrickState) → List B → ℕ → List JournalEntry
 journals_of state bricks i = journal_at state (slice_get bricks i)
 
--- a brick of a replay of so many bricks: it is up, it never fails, and it knows their names
-pub record IsReady (count : ℕ) (s : BrickState) : Type 0 where
+-- a brick of a replay over this volume: it has this number, it is up, it never fails, and it knows the volume
+pub record IsReady (v : VolumeInfo) (b : ℕ) (s : BrickState) : Type 0 where
+  pub number : s.number ≡ b
   pub up : s.is_up ≡ true
   pub unarmed : s.is_armed ≡ false
   pub faultless : s.is_faultless ≡ true
-  pub names : s.volume.names ≡ replay_names count
+  pub volume : s.volume ≡ v
 
-abbrev pub ReadyAt : {B : Type 0} → (B → BrickState) → ℕ → Option B → Type 0
-ReadyAt state count None = Unit {0}
-ReadyAt state count (Some b) = IsReady count (state b)
+abbrev pub ReadyAt : {B : Type 0} → (B → BrickState) → VolumeInfo → ℕ → Option B → Type 0
+ReadyAt state v b None = Unit {0}
+ReadyAt state v b (Some brick) = IsReady v b (state brick)
 
--- each brick is ready
-abbrev pub AreReady : {B : Type 0} → (B → BrickState) → List B → Type 0
-AreReady state bricks = (b : ℕ) → ReadyAt state (length bricks) (slice_get bricks b)
+-- the volume of so many bricks of a replay, of these weights in this run
+abbrev pub volume_of : ℕ → List ℕ → ℕ → VolumeInfo
+volume_of count ws run = record { names = replay_names count; weights = ws; run = run }
+
+-- each brick is ready: its number is its place, and it knows the volume of these bricks, of these weights in this run
+abbrev pub AreReady : {B : Type 0} → (B → BrickState) → List ℕ → ℕ → List B → Type 0
+AreReady state ws run bricks = (b : ℕ) → ReadyAt state (volume_of (length bricks) ws run) b (slice_get bricks b)
 
 -- an entry, as a step line tells it
-abbrev pub shown : JournalEntry → Act
-shown e = record { client = e.client; call = e.call; request = e.request; reply = e.reply }
+abbrev pub act_of : JournalEntry → Act
+act_of e = record { client = e.client; call = e.call; request = e.request; reply = e.reply }
 
 -- the slots of the requests that changed the tree
 abbrev pub changed_slots : List JournalEntry → List Entry
@@ -63,8 +68,8 @@ changed_slots [] = []
 changed_slots (e ∷ es) = if is_change e.request e.reply then (e.gfid, e.name) ∷ changed_slots es else changed_slots es
 
 -- each brick's journal is, in order, its step lines, and the tree lines under them are of its entries' slots
-pub record Logged (journals : ℕ → List JournalEntry) (s : Story) : Type 0 where
-  pub steps : (b : ℕ) → map shown (journals b) ≡ s.acts b
+pub record Logged (journals : ℕ → List JournalEntry) (s : History) : Type 0 where
+  pub steps : (b : ℕ) → map act_of (journals b) ≡ s.acts b
   pub slots : (b : ℕ) → changed_slots (journals b) ≡ s.changes b
 
 -- a new brick of this number, in a volume of these weights: it has the root's record alone, with the range that is planned for the brick
@@ -77,9 +82,9 @@ pub record AreNewborn (ws : List ℕ) (d : Disk) (js : ℕ → List JournalEntry
   pub elsewhere : (b : ℕ) → d.count ≤ b → d.brick b ≡ nothing
   pub journals : (b : ℕ) → js b ≡ []
 
--- one brick served a request, by its row or for want of memory, and noted it; the others did not change
+-- one brick served a request, by its row or memory ran out, and noted it; the others did not change
 pub record ServedAt {B : Type 0} (state : B → BrickState) (c : ClientNo) (k : CallNo) (a : Ask) (old : List B) (r : Reply) (new : List B) : Type 0 where
   pub after : Contents
   pub served : Serves (row (replay_names (length old)) c k a.request ((disk_of state old).brick a.brick.0)) ((disk_of state old).brick a.brick.0) r after
-  pub changes : Changes (disk_of state old) a.brick.0 after (disk_of state new)
+  pub changes : ChangesOneBrick (disk_of state old) a.brick.0 after (disk_of state new)
   pub noted : journals_of state new ≡ put nat_eq (journals_of state old) a.brick.0 (journals_of state old a.brick.0 ++ entry_of c k a.request r ∷ [])

@@ -7,7 +7,7 @@ use Rattle.dht_types.specs.declared.lines.Line.{Line}
 use Rattle.dht_types.specs.declared.lines.Line.TheVariants.{Stepped, Tree}
 use Rattle.dht_brick.specs.Kinds.{kind_of, reply_kind}
 use Rattle.dht_brick.specs.declared.replies.Reply.{Reply}
-use Rattle.dht_brick.specs.declared.machines.Ask.{Ask}
+use Rattle.dht_section.specs.declared.machine.Ask.{Ask}
 use Rattle.dht_section.specs.Scene.{step_of}
 
 abbrev pub tree_lines : CallNo → Option TreeStep → List Line

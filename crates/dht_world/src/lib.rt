@@ -3,7 +3,7 @@
 //! the bricks stand for the lines' tree.
 #![tactic(auto)]
 
-#[cfg(test)]
-mod checking;
-pub mod notes;
-pub mod world;
+mod events;
+mod notes;
+
+pub use events::World;

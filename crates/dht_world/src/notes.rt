@@ -4,15 +4,15 @@ ghost use Rattle.std.specs.Prelude.{◌≡◌, ◌+◌, ◌≤◌, ◌<◌, [], 
 ghost use Rattle.dht_section.specs.Scene.{step_of};
 ghost use Rattle.dht_world.specs.Lines.{request_lines};
 
-use dht_brick::machines::Ask;
 use dht_brick::replies::Reply;
 use dht_brick::requests::{NameRequest, Request};
+use dht_section::machine::Ask;
 use dht_types::calls::TreeStep;
 use dht_types::identifiers::{CallNo, ClientNo};
 use dht_types::lines::Line;
 
 /// Appends a line, for which there is room.
-pub fn note(out: &mut Vec<Line>, line: Line)
+pub fn push_line(out: &mut Vec<Line>, line: Line)
     requires { vec_len out.old < vec_capacity out.old }
     ensures items { out.new.items ≡ out.old.items ++ line ∷ [] }
     ensures room { vec_capacity out.old ≤ vec_capacity out.new }
@@ -33,7 +33,7 @@ pub fn step_of(request: &Request, reply: &Reply) -> Option<TreeStep>
 }
 
 /// Appends the lines of a request that was served, and gives how many they are.
-pub fn note_request(
+pub fn push_request(
     out: &mut Vec<Line>,
     call: CallNo,
     client: ClientNo,
@@ -46,13 +46,13 @@ pub fn note_request(
     ensures few { result ≤ 2 }
     ensures room { vec_capacity out.old ≤ vec_capacity out.new }
 {
-    note(
+    push_line(
         out,
         Line::Stepped(call, client, ask.brick, ask.request.kind(), reply.kind()),
     );
     match step_of(&ask.request, reply) {
         Some(step) => {
-            note(out, Line::Tree(call, step));
+            push_line(out, Line::Tree(call, step));
             2
         }
         None => 1,

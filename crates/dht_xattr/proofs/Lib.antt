@@ -1,3 +1,9 @@
 pub mod PaddedLemmas
 pub mod OrderLemmas
 pub mod PlanLemmas
+pub mod RangeLaws
+pub mod LayoutLaws
+pub mod FaultLaws
+pub mod LinktoLaws
+pub mod OrderLaws
+pub mod PlanLaws

@@ -7,7 +7,7 @@ use Rattle.std.proofs.lemmas.List.Sums.{sum_by-le}
 use Rattle.dht_types.specs.declared.identifiers.Gfid.{Gfid}
 use Rattle.dht_types.specs.Volume.{VolumeInfo, IsVolume}
 use Rattle.dht_xattr.specs.Plan.{heavy_from, turn, rotated, order}
-use Rattle.dht_xattr.specs.OrderLaws.{heavy_positive, length-rotated, turn_fits}
+use Rattle.dht_xattr.proofs.OrderLaws.{heavy_positive, length-rotated, turn_fits}
 
 -- a brick more, of weight 0 or above
 heavy_none : (b : ℕ) (ws : List ℕ) (w : ℕ) → w ≡ 0 → heavy_from b (ws ++ w ∷ []) ≡ heavy_from b ws
@@ -38,7 +38,7 @@ heavy_more_yes ws bricks k n h room positive so_far =
     let size = length-take-le k ws (omega arith) in
     let place : 0 + length (take k ws) ≡ k = omega arith in
     take_more_set bricks n k room
-    ∙ ap (λ (front : List ℕ). front ++ k ∷ []) so_far
+    ∙ ap (λ (start : List ℕ). start ++ k ∷ []) so_far
     ∙ ap (λ (x : ℕ). heavy_from 0 (take k ws) ++ x ∷ []) (sym place)
     ∙ sym (heavy_some 0 (take k ws) (slice_index ws k) positive)
     ∙ ap (heavy_from 0) (sym (take_more ws k 0 h))
@@ -60,16 +60,16 @@ sum_light v good =
     let most = sum_by-le (λ x. x) 1000 v.weights good.light in
     omega arith
 
--- the bricks in front are turned
-pub order_is : (ws bricks front : List ℕ) (dir : Gfid) (n : ℕ) → n ≤ length bricks → 0 < n → take n bricks ≡ heavy_from 0 ws
-    → front ≡ rotated (turn dir n) (take n bricks) → take n (front ++ drop n bricks) ≡ order ws dir
+-- a prefix of the bricks is turned
+pub order_is : (ws bricks turned_bricks : List ℕ) (dir : Gfid) (n : ℕ) → n ≤ length bricks → 0 < n → take n bricks ≡ heavy_from 0 ws
+    → turned_bricks ≡ rotated (turn dir n) (take n bricks) → take n (turned_bricks ++ drop n bricks) ≡ order ws dir
 unfolding order
-order_is ws bricks front dir n few positive heavy turned =
+order_is ws bricks turned_bricks dir n few positive heavy turned =
     let size = length-take-le n bricks few in
-    let same : length front ≡ n = ap length turned ∙ length-rotated (turn dir n) (take n bricks) (λ some. let fits = turn_fits dir n positive in omega arith) ∙ size in
+    let same : length turned_bricks ≡ n = ap length turned ∙ length-rotated (turn dir n) (take n bricks) (λ some. let fits = turn_fits dir n positive in omega arith) ∙ size in
     let count : n ≡ length (heavy_from 0 ws) = sym size ∙ ap length heavy in
-    ap (λ (k : ℕ). take k (front ++ drop n bricks)) (sym same)
-    ∙ take-append_seam front (drop n bricks)
+    ap (λ (k : ℕ). take k (turned_bricks ++ drop n bricks)) (sym same)
+    ∙ take-append_seam turned_bricks (drop n bricks)
     ∙ turned
     ∙ ap (rotated (turn dir n)) heavy
     ∙ ap (λ (k : ℕ). rotated (turn dir k) (heavy_from 0 ws)) count

@@ -7,14 +7,14 @@ use Rattle.std.proofs.lemmas.List.Quantifiers.{position-Some}
 use Rattle.dht_types.specs.declared.identifiers.Gfid.{Gfid}
 use Rattle.dht_types.specs.Volume.{VolumeInfo, IsVolume}
 use Rattle.dht_xattr.specs.declared.range.Range.{Range}
-use Rattle.dht_xattr.specs.OrderLaws.{AreApart, order_within}
-use Rattle.dht_xattr.specs.Plan.{order, share, start, rest_from, run_of, range_at, range_of, planned}
-use Rattle.dht_xattr.specs.PlanLaws.{start_more, start_below, place_is, planned_length, planned_at}
+use Rattle.dht_xattr.proofs.OrderLaws.{AreApart, order_within}
+use Rattle.dht_xattr.specs.Plan.{order, share, start, rest_from, run_of, range_in_turn, dealt_range, planned}
+use Rattle.dht_xattr.proofs.PlanLaws.{start_more, start_below, place_is, planned_length, planned_at}
 
 -- the range of a brick, where the places before p have theirs
 abbrev pub dealt : List ℕ → List ℕ → ℕ → Option ℕ → Option Range
 dealt ws os p None = None
-dealt ws os p (Some place) = if nat_lt place p then range_at ws os place else None
+dealt ws os p (Some place) = if nat_lt place p then range_in_turn ws os place else None
 
 -- the ranges of all bricks, where the places before p have theirs
 abbrev pub AreDealt : List ℕ → List ℕ → ℕ → List (Option Range) → Type 0
@@ -22,7 +22,7 @@ AreDealt ws os p ranges = (b : ℕ) (d : Option Range) → b < length ranges →
 
 none_dealt : (ws os : List ℕ) (o : Option ℕ) → dealt ws os 0 o ≡ None
 none_dealt ws os None = refl
-none_dealt ws os (Some place) = cond-false (nat_lt place 0) (range_at ws os place) None (le-ltb place 0 (omega arith))
+none_dealt ws os (Some place) = cond-false (nat_lt place 0) (range_in_turn ws os place) None (le-ltb place 0 (omega arith))
 
 pub AreDealt-none : (ws os : List ℕ) → AreDealt ws os 0 (replicate 32 None)
 AreDealt-none ws os b d h =
@@ -35,12 +35,12 @@ other_dealt ws os p b (Some q) at differ =
     let (within, pass, before) = position-Some (λ c. c == b) os q 0 at in
     let another : q ≢ p = λ same. differ (sym (eqb-true (slice_index os q) b pass) ∙ ap (slice_index os) same) in
     ⊎_elim
-    (λ below. cond-true (nat_lt q p) _ _ (lt-ltb q p below) ∙ sym (cond-true (nat_lt q (p + 1)) (range_at ws os q) None (lt-ltb q (p + 1) (omega arith))))
-    (λ from. cond-false (nat_lt q p) _ _ (le-ltb q p from) ∙ sym (cond-false (nat_lt q (p + 1)) (range_at ws os q) None (le-ltb q (p + 1) (omega arith))))
+    (λ below. cond-true (nat_lt q p) _ _ (lt-ltb q p below) ∙ sym (cond-true (nat_lt q (p + 1)) (range_in_turn ws os q) None (lt-ltb q (p + 1) (omega arith))))
+    (λ from. cond-false (nat_lt q p) _ _ (le-ltb q p from) ∙ sym (cond-false (nat_lt q (p + 1)) (range_in_turn ws os q) None (le-ltb q (p + 1) (omega arith))))
     (cases_lt q p)
 
 pub AreDealt-more : (ws os : List ℕ) (p b : ℕ) (range : Option Range) (ranges : List (Option Range)) → AreApart os → p < length os → slice_index os p ≡ b
-    → range ≡ range_at ws os p → AreDealt ws os p ranges → AreDealt ws os (p + 1) (set ranges b range)
+    → range ≡ range_in_turn ws os p → AreDealt ws os p ranges → AreDealt ws os (p + 1) (set ranges b range)
 AreDealt-more ws os p b range ranges apart place brick next so_far k d h =
     let size = length-set ranges b range in
     ⊎_elim
@@ -49,7 +49,7 @@ AreDealt-more ws os p b range ranges apart place brick next so_far k d h =
     ap (λ (m : ℕ). get_or (set ranges b range) m d) same
     ∙ get_or-set_same ranges b range d (omega arith)
     ∙ next
-    ∙ sym (cond-true (nat_lt p (p + 1)) (range_at ws os p) None (lt-ltb p (p + 1) (omega arith)))
+    ∙ sym (cond-true (nat_lt p (p + 1)) (range_in_turn ws os p) None (lt-ltb p (p + 1) (omega arith)))
     ∙ ap (dealt ws os (p + 1)) (sym at))
     (λ differ.
     get_or-set_other ranges b k range d differ
@@ -58,10 +58,10 @@ AreDealt-more ws os p b range ranges apart place brick next so_far k d h =
     (cases_eq k b)
 
 -- in the end each place has its range
-all_dealt : (ws os : List ℕ) (b : ℕ) (o : Option ℕ) → position (λ c. c == b) os ≡ o → dealt ws os (length os) o ≡ range_of ws os o
+all_dealt : (ws os : List ℕ) (b : ℕ) (o : Option ℕ) → position (λ c. c == b) os ≡ o → dealt ws os (length os) o ≡ dealt_range ws os o
 all_dealt ws os b None at = refl
 all_dealt ws os b (Some p) at =
-    cond-true (nat_lt p (length os)) (range_at ws os p) None (lt-ltb p (length os) (position-Some (λ c. c == b) os p 0 at).0)
+    cond-true (nat_lt p (length os)) (range_in_turn ws os p) None (lt-ltb p (length os) (position-Some (λ c. c == b) os p 0 at).0)
 
 pub AreDealt-planned : (ws : List ℕ) (dir : Gfid) (p n : ℕ) (ranges : List (Option Range)) → n ≡ length ws → n ≤ length ranges → p ≡ length (order ws dir)
     → AreDealt ws (order ws dir) p ranges → take n ranges ≡ planned ws dir
@@ -106,7 +106,7 @@ step_at v dir bricks n p first count good same few place begin part =
 
 -- the range that goes to a place is that of the plan
 pub next_range : (ws os : List ℕ) (p n first count : ℕ) (range : Option Range) → length os ≡ n → first ≡ start ws os p → count ≡ share ws (slice_index os p)
-    → range ≡ (if p + 1 == n then rest_from first else run_of first count) → range ≡ range_at ws os p
+    → range ≡ (if p + 1 == n then rest_from first else run_of first count) → range ≡ range_in_turn ws os p
 next_range ws os p n first count range size begin part made =
     made
     ∙ ap (λ (m : ℕ). if p + 1 == m then rest_from first else run_of first count) (sym size)

@@ -1,11 +1,4 @@
 pub mod Range
-pub mod RangeLaws
 pub mod Layout
-pub mod LayoutLaws
 pub mod Faults
-pub mod FaultLaws
-pub mod LinktoLaws
-pub mod Padded
 pub mod Plan
-pub mod OrderLaws
-pub mod PlanLaws

@@ -1,12 +1,8 @@
 -- How the hashes of a directory are shared among the bricks of a volume.
-use Rattle.std.specs.Prelude.{ℕ, zero, suc, ◌+◌, ◌*◌, ◌/◌, ◌%◌, ◌^◌, ◌<◌, ◌≡◌, ◌==◌, Any, if◌then◌else◌, Option, Some, None, List, [], ◌∷◌, ◌++◌, length, take, drop, sum, sum_by, position, slice_index, slice_index_or}
+use Rattle.std.specs.Prelude.{ℕ, zero, suc, ◌+◌, ◌*◌, ◌/◌, ◌%◌, ◌^◌, ◌≡◌, ◌==◌, if◌then◌else◌, Option, Some, None, List, [], ◌∷◌, ◌++◌, length, take, drop, sum, sum_by, position, slice_index, slice_index_or}
 use Rattle.dht_types.specs.declared.identifiers.Gfid.{Gfid}
 use Rattle.dht_xattr.specs.declared.range.Range.{Range}
 use Rattle.dht_xattr.specs.Range.{IsRange, encoded}
-
--- some brick has weight
-abbrev pub HasWeight : List ℕ → Type 0
-HasWeight weights = Any (λ w. 0 < w) weights
 
 -- the bricks of weight above 0 in rising order, where the first of these weights is that of brick b
 abbrev pub heavy_from : ℕ → List ℕ → List ℕ
@@ -44,22 +40,22 @@ abbrev pub rest_from : ℕ → Option Range
 rest_from first = Some (record { commit = 0; first = first; last = 4294967295 })
 
 -- the range at a place of the order; the last takes all that is left
-abbrev pub range_at : List ℕ → List ℕ → ℕ → Option Range
-range_at weights bricks place =
+abbrev pub range_in_turn : List ℕ → List ℕ → ℕ → Option Range
+range_in_turn weights bricks place =
     let first = start weights bricks place in
     if place + 1 == length bricks
     then rest_from first
     else run_of first (share weights (slice_index bricks place))
 
 -- the range of a brick; one that has no place in the order has none
-abbrev pub range_of : List ℕ → List ℕ → Option ℕ → Option Range
-range_of weights bricks None = None
-range_of weights bricks (Some place) = range_at weights bricks place
+abbrev pub dealt_range : List ℕ → List ℕ → Option ℕ → Option Range
+dealt_range weights bricks None = None
+dealt_range weights bricks (Some place) = range_in_turn weights bricks place
 
 -- the ranges of so many bricks, from brick b on
 abbrev pub ranges_from : List ℕ → List ℕ → ℕ → ℕ → List (Option Range)
 ranges_from weights bricks b zero = []
-ranges_from weights bricks b (suc more) = range_of weights bricks (position (λ c. c == b) bricks) ∷ ranges_from weights bricks (suc b) more
+ranges_from weights bricks b (suc more) = dealt_range weights bricks (position (λ c. c == b) bricks) ∷ ranges_from weights bricks (suc b) more
 
 -- the plan of a directory: the range of each brick
 unfoldable pub planned : List ℕ → Gfid → List (Option Range)

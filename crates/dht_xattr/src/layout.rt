@@ -4,7 +4,7 @@ ghost use Rattle.std.specs.Prelude.{◌≡◌, ◌≤◌, ◌<◌, [], ◌∷◌
 ghost use Rattle.dht_xattr.specs.declared.range.Range.{Range};
 ghost use Rattle.dht_xattr.specs.Range.{contains};
 ghost use Rattle.dht_xattr.specs.Layout.{holder, covers};
-ghost use Rattle.dht_xattr.specs.Padded.{padded};
+ghost use Rattle.dht_types.specs.Padded.{padded};
 
 use super::range::Range;
 use dht_types::identifiers::BrickNo;
@@ -16,32 +16,35 @@ pub const MOST_RANGES: usize = 32;
 /// The ranges of a directory, one for each brick in the bricks' order, and none where a brick holds
 /// nothing of the directory; as GlusterFS's `dht_layout_t`. There are at most 32, kept in place.
 /// Contracts see a layout as the list of these.
-#[derive(Clone, Copy, Debug)]
+#[derive(Clone, Copy)]
 pub struct Layout {
     count: u8,
     places: [Option<Range>; 32],
 }
 
 impl Model for Layout {
-    ghost use Rattle.std.specs.Prelude.{List, Option, length, take};
+    ghost use Rattle.std.specs.Prelude.{List, Option, None, length, take};
     ghost use Rattle.dht_xattr.specs.declared.range.Range.{Range};
-    ghost use Rattle.dht_xattr.specs.Padded.{IsPadded, padded, length_back, places_back};
+    ghost use Rattle.dht_types.specs.Padded.{IsPadded, padded, length_back, places_back};
 
     ghost Value = { List (Option Range) };
 
     ghost view = { λ l. take l.count l.places };
 
-    ghost invariant = { λ l. IsPadded l.count l.places };
+    ghost invariant = { λ l. IsPadded 32 None l.count l.places };
 
-    ghost inverse = { λ ranges. record { count = length ranges; places = padded ranges } };
+    ghost inverse = { λ ranges. record { count = length ranges; places = padded 32 None ranges } };
 
-    ghost inverse_ok = { λ l h. λ i. record { count = length_back l.count l.places h i; places = places_back l.count l.places h i } };
+    ghost inverse_ok = { λ l h. λ i. record {
+      count = length_back 32 None l.count l.places h i;
+      places = places_back 32 None l.count l.places h i;
+    } };
 }
 
 /// The ranges, and none behind them.
 fn places_of(ranges: &[Option<Range>]) -> [Option<Range>; 32]
     requires { length ranges.now ≤ 32 }
-    ensures { result ≡ padded ranges.now }
+    ensures { result ≡ padded 32 None ranges.now }
 {
     let mut places = [None; 32];
     places[..ranges.len()].copy_from_slice(ranges);
@@ -109,7 +112,8 @@ fn first_with(ranges: &[Option<Range>], hash: u32) -> Option<usize>
 /// The brick that holds a hash: the first whose range contains it.
 pub fn holder(layout: &Layout, hash: u32) -> Option<BrickNo>
     ensures holder { option_map (λ b. b.0) result ≡ holder layout.now hash }
-    ensures some { IfSome result (λ b. (b.0 < length layout.now) × (contains (slice_index_or layout.now b.0 None) hash ≡ true)) }
+    ensures some { IfSome result (λ b. (b.0 < length layout.now)
+        × (contains (slice_index_or layout.now b.0 None) hash ≡ true)) }
     ensures none { IfNone result (covers layout.now hash ≡ 0) }
 {
     let brick = first_with(layout.as_slice(), hash)?;
@@ -117,7 +121,7 @@ pub fn holder(layout: &Layout, hash: u32) -> Option<BrickNo>
 }
 
 /// What is wrong with a layout.
-#[derive(Clone, Copy, Debug, PartialEq, Eq)]
+#[derive(Clone, Copy, PartialEq, Eq)]
 pub struct Faults {
     /// Some hash is in no range.
     pub holes: bool,
@@ -128,7 +132,8 @@ pub struct Faults {
 /// The holder of a hash is a brick of the layout, and a hash that is in some range has one: these
 /// are laws for callers, and do nothing.
 pub fn a_holder_is_in_the_layout()
-    ensures within { (ranges : List (Option Range)) (hash b : ℕ) → holder ranges hash ≡ Some b → b < length ranges }
+    ensures within { (ranges : List (Option Range)) (hash b : ℕ) → holder ranges hash ≡ Some b
+        → b < length ranges }
     ensures some { (ranges : List (Option Range)) (hash : ℕ) → 0 < covers ranges hash
         → (b : ℕ) × (b < length ranges) × (holder ranges hash ≡ Some b) }
 {}

@@ -8,5 +8,3 @@ pub mod layout;
 pub mod linkto;
 pub mod plan;
 pub mod range;
-#[cfg(test)]
-mod tests;

@@ -33,7 +33,8 @@ fn without_zero(value: &[u8]) -> &[u8]
 /// byte at its end if it has one, is no name of the volume.
 pub fn linkto_brick(volume: &Volume, value: &[u8]) -> Option<BrickNo>
     ensures brick { option_map (λ b. b.0) result ≡ linked_brick volume.now.names value.now }
-    ensures some { IfSome result (λ b. slice_get volume.now.names b.0 ≡ Some (without_zero value.now)) }
+    ensures some { IfSome result
+        (λ b. slice_get volume.now.names b.0 ≡ Some (without_zero value.now)) }
     ensures none { IsNone result ↔ ¬ (Contains volume.now.names (without_zero value.now)) }
 {
     // A volume has no name twice, as `bricks` says: the brick is the only one of its name.
@@ -44,7 +45,10 @@ pub fn linkto_brick(volume: &Volume, value: &[u8]) -> Option<BrickNo>
 /// A linkto value leads to the brick that it was written for, also where its zero byte was taken off,
 /// and has at most 65 bytes: these are laws for callers, and do nothing.
 pub fn a_linkto_leads_to_its_brick()
-    ensures written { (v : VolumeInfo) (b : ℕ) → IsVolume v → b < length v.names → linked_brick v.names (linkto_value v.names b) ≡ Some b }
-    ensures short { (v : VolumeInfo) (b : ℕ) → IsVolume v → b < length v.names → length (linkto_value v.names b) ≤ 65 }
-    ensures name { (v : VolumeInfo) (b : ℕ) (name : List ℕ) → IsVolume v → slice_get v.names b ≡ Some name → linked_brick v.names name ≡ Some b }
+    ensures written { (v : VolumeInfo) (b : ℕ) → IsVolume v → b < length v.names
+        → linked_brick v.names (linkto_value v.names b) ≡ Some b }
+    ensures short { (v : VolumeInfo) (b : ℕ) → IsVolume v → b < length v.names
+        → length (linkto_value v.names b) ≤ 65 }
+    ensures name { (v : VolumeInfo) (b : ℕ) (name : List ℕ) → IsVolume v
+        → slice_get v.names b ≡ Some name → linked_brick v.names name ≡ Some b }
 {}

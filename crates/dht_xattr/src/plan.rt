@@ -3,7 +3,8 @@
 ghost use Rattle.std.specs.Prelude.{◌≡◌, ◌+◌, ◌<◌, ◌≤◌, ◌^◌, ℕ, List, if◌then◌else◌, All, IfSome, Some, length, sum, None, take, slice_get, slice_index};
 ghost use Rattle.dht_types.specs.declared.identifiers.Gfid.{Gfid};
 ghost use Rattle.dht_xattr.specs.Layout.{holder, covers};
-ghost use Rattle.dht_xattr.specs.Plan.{HasWeight, IsPlanned, heavy_from, order, share, rest_from, run_of, planned};
+ghost use Rattle.dht_types.specs.Volume.{HasWeight};
+ghost use Rattle.dht_xattr.specs.Plan.{IsPlanned, heavy_from, order, share, rest_from, run_of, planned};
 
 use super::layout::{Layout, MOST_RANGES};
 use super::range::Range;
@@ -136,10 +137,14 @@ pub fn plan(volume: &Volume, dir: Gfid) -> Layout
 /// and each hash is in exactly one of them, so that it has a holder. These are laws for callers, and
 /// do nothing.
 pub fn a_plan_has_each_hash_once()
-    ensures length { (weights : List ℕ) (dir : Gfid) → length (planned weights dir) ≡ length weights }
-    ensures light { (weights : List ℕ) (dir : Gfid) (b : ℕ) → b < length weights → slice_index weights b ≡ 0 → slice_get (planned weights dir) b ≡ Some None }
-    ensures valid { (weights : List ℕ) (dir : Gfid) → HasWeight weights → All (λ range. IfSome range IsPlanned) (planned weights dir) }
-    ensures once { (weights : List ℕ) (dir : Gfid) (hash : ℕ) → HasWeight weights → hash < 2 ^ 32 → covers (planned weights dir) hash ≡ 1 }
+    ensures length { (weights : List ℕ) (dir : Gfid)
+        → length (planned weights dir) ≡ length weights }
+    ensures light { (weights : List ℕ) (dir : Gfid) (b : ℕ) → b < length weights
+        → slice_index weights b ≡ 0 → slice_get (planned weights dir) b ≡ Some None }
+    ensures valid { (weights : List ℕ) (dir : Gfid) → HasWeight weights
+        → All (λ range. IfSome range IsPlanned) (planned weights dir) }
+    ensures once { (weights : List ℕ) (dir : Gfid) (hash : ℕ) → HasWeight weights → hash < 2 ^ 32
+        → covers (planned weights dir) hash ≡ 1 }
     ensures holder { (weights : List ℕ) (dir : Gfid) (hash : ℕ) → HasWeight weights → hash < 2 ^ 32
         → (b : ℕ) × (b < length weights) × (holder (planned weights dir) hash ≡ Some b) }
 {}

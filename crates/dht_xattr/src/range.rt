@@ -13,7 +13,7 @@ pub const RANGE_LEN: usize = 16;
 const HASH_TYPE: u32 = 0;
 
 /// A range of hashes, both ends included.
-#[derive(Clone, Copy, Debug, PartialEq, Eq)]
+#[derive(Clone, Copy, PartialEq, Eq)]
 pub struct Range {
     /// The commit word, as GlusterFS's commit hash: the number of the run whose rebalance settled
     /// the layout, and 0 where none has.
@@ -75,5 +75,6 @@ pub fn decode(value: &[u8]) -> Option<Range>
 
 /// A range is read from its own bytes: this is a law for callers, and does nothing.
 pub fn a_range_is_read_from_its_bytes()
-    ensures { (r : Range) → r.commit < 2 ^ 32 → r.first ≤ r.last → r.last < 2 ^ 32 → decoded (encoded r) ≡ Some r }
+    ensures { (r : Range) → r.commit < 2 ^ 32 → r.first ≤ r.last → r.last < 2 ^ 32
+        → decoded (encoded r) ≡ Some r }
 {}

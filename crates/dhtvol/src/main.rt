@@ -1,27 +1,17 @@
 //! dhtvol: a distributed file volume that spreads whole files over bricks by name.
+//!
+//! The program hands the words of the command line, the standard input and the standard output to
+//! `dht_run`, and ends with the status that it gives. What a run does is proved there; here are its
+//! tests, over data.
 #![tactic(auto)]
 
-pub mod commands;
-pub mod ending;
-pub mod events;
-pub mod faults;
-pub mod layouts;
-pub mod lines;
-pub mod output;
-pub mod printing;
-pub mod replay;
-pub mod run;
-pub mod sink;
-pub mod source;
-pub mod words;
-
-use run::{Shelf, run};
-use sink::StdSink;
-use source::StdSource;
+use dht_run::run::{Shelf, run};
+use dht_run::sink::StdSink;
+use dht_run::source::StdSource;
+use dht_run::words::Word;
 use std::alloc::{AllocError, Global};
 use std::process::ExitCode;
 use std::rt::Env;
-use words::Word;
 
 /// The words of the command line, without the program's name.
 fn words_of<R: Env + Alloc<A = Global>>(rt: &R) -> Result<Vec<Word>, AllocError> {
@@ -49,3 +39,6 @@ fn main(rt: HostRuntime) -> ExitCode {
     let status = run(alloc, &words, &mut source, &mut sink, &mut shelf);
     ExitCode::from(status)
 }
+
+#[cfg(test)]
+mod tests;

@@ -6,4 +6,4 @@ use Rattle.dht_types.proofs.names.place_of.Goals as goal
 pub returns : goal.returns
 returns c =
     let bytes = c.args.bytes.now in
-    ap (λ front. front ++ drop (length bytes) (replicate 255 0)) c.copy_from_slice.ensures.after ∙ ap (λ zeros. bytes ++ zeros) (drop-replicate (length bytes) 255 0)
+    ap (λ start. start ++ drop (length bytes) (replicate 255 0)) c.copy_from_slice.ensures.after ∙ ap (λ zeros. bytes ++ zeros) (drop-replicate (length bytes) 255 0)

@@ -1,6 +1,6 @@
 use Rattle.std.proofs.Common.{◌≡◌, sym, ap, ◌∙◌}
 use Rattle.dht_xattr.specs.Faults.{has_hole, has_overlap}
-use Rattle.dht_xattr.specs.FaultLaws.{has_hole_is, has_overlap_is}
+use Rattle.dht_xattr.proofs.FaultLaws.{has_hole_is, has_overlap_is}
 use Rattle.dht_xattr.proofs.faults.faults.Goals as goal
 
 pub returns-clause-holes : goal.returns-clause-holes

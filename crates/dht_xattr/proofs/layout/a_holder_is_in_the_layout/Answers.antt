@@ -1,4 +1,4 @@
-use Rattle.dht_xattr.specs.LayoutLaws.{holder_within, holder_some}
+use Rattle.dht_xattr.proofs.LayoutLaws.{holder_within, holder_some}
 use Rattle.dht_xattr.proofs.layout.a_holder_is_in_the_layout.Goals as goal
 
 pub returns-clause-within : goal.returns-clause-within

@@ -3,7 +3,7 @@ use Rattle.std.specs.Prelude.{Option, Some, None, IfNone}
 use Rattle.dht_types.specs.declared.identifiers.BrickNo.{BrickNo}
 use Rattle.dht_xattr.specs.declared.range.Range.{Range}
 use Rattle.dht_xattr.specs.Layout.{holder, covers}
-use Rattle.dht_xattr.specs.LayoutLaws.{holder_none, holder_within, holder_contains}
+use Rattle.dht_xattr.proofs.LayoutLaws.{holder_none, holder_within, holder_contains}
 use Rattle.dht_xattr.proofs.layout.holder.Goals as goal
 
 pub returns-clause-some : goal.returns-clause-some

@@ -7,5 +7,5 @@ use Rattle.dht_xattr.proofs.layout.places_of.Goals as goal
 pub returns : goal.returns
 returns c =
     let ranges = c.args.ranges.now in
-    ap (λ (front : List (Option Range)). front ++ drop (length ranges) (replicate 32 None)) c.copy_from_slice.ensures.after
+    ap (λ (start : List (Option Range)). start ++ drop (length ranges) (replicate 32 None)) c.copy_from_slice.ensures.after
     ∙ ap (λ (rest : List (Option Range)). ranges ++ rest) (drop-replicate (length ranges) 32 None)

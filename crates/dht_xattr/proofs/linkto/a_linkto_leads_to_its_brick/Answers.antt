@@ -1,4 +1,4 @@
-use Rattle.dht_xattr.specs.LinktoLaws.{linked_brick-written, linked_brick-name, linkto_value-short}
+use Rattle.dht_xattr.proofs.LinktoLaws.{linked_brick-written, linked_brick-name, linkto_value-short}
 use Rattle.dht_xattr.proofs.linkto.a_linkto_leads_to_its_brick.Goals as goal
 
 pub returns-clause-written : goal.returns-clause-written

@@ -1,7 +1,7 @@
 use Rattle.std.proofs.Common.{ℕ, List, ap, ◌∙◌}
 use Rattle.std.specs.Prelude.{position}
 use Rattle.std.specs.Str.{bytes_eq}
-use Rattle.dht_xattr.specs.LinktoLaws.{number_of_name}
+use Rattle.dht_xattr.proofs.LinktoLaws.{number_of_name}
 use Rattle.dht_xattr.proofs.linkto.linkto_brick.Goals as goal
 
 pub returns-clause-brick : goal.returns-clause-brick

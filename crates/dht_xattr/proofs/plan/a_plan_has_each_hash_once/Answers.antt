@@ -1,4 +1,4 @@
-use Rattle.dht_xattr.specs.PlanLaws.{planned_length, planned_light, planned_valid, planned_once, planned_holder}
+use Rattle.dht_xattr.proofs.PlanLaws.{planned_length, planned_light, planned_valid, planned_once, planned_holder}
 use Rattle.dht_xattr.proofs.plan.a_plan_has_each_hash_once.Goals as goal
 
 pub returns-clause-length : goal.returns-clause-length

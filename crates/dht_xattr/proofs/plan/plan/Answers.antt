@@ -4,8 +4,8 @@ use Rattle.std.proofs.lemmas.List.{length-set}
 use Rattle.dht_xattr.specs.declared.range.Range.{Range}
 use Rattle.dht_xattr.specs.Layout.{covers}
 use Rattle.dht_xattr.specs.Plan.{order, planned}
-use Rattle.dht_xattr.specs.PlanLaws.{planned_once}
-use Rattle.dht_xattr.specs.OrderLaws.{order_apart}
+use Rattle.dht_xattr.proofs.PlanLaws.{planned_once}
+use Rattle.dht_xattr.proofs.OrderLaws.{order_apart}
 use Rattle.dht_xattr.proofs.PlanLemmas.{AreDealt-none, AreDealt-more, AreDealt-planned, Step, step_at, order_size, next_range}
 use Rattle.dht_xattr.proofs.plan.plan.Goals as goal
 use Rattle.dht_xattr.proofs.plan.plan.Goals.{After-share-count, After-new}

@@ -1,4 +1,4 @@
-use Rattle.dht_xattr.specs.RangeLaws.{decoded_encoded}
+use Rattle.dht_xattr.proofs.RangeLaws.{decoded_encoded}
 use Rattle.dht_xattr.proofs.range.a_range_is_read_from_its_bytes.Goals as goal
 
 pub returns : goal.returns

@@ -1,5 +1,5 @@
 use Rattle.std.proofs.Common.{ℕ, ◌<◌, slice_index, arith}
-use Rattle.dht_xattr.specs.RangeLaws.{encoded_decoded, encoded_parts, read_number}
+use Rattle.dht_xattr.proofs.RangeLaws.{encoded_decoded, encoded_parts, read_number}
 use Rattle.dht_xattr.proofs.range.decode.Goals as goal
 use Rattle.dht_xattr.proofs.range.decode.Goals.{else-hash_type-eq-HASH_TYPE-via-then-hash_type-eq-HASH_TYPE+else-first-last, else-hash_type-eq-HASH_TYPE-via-else-hash_type-eq-HASH_TYPE}
 

@@ -1,15 +1,20 @@
-use Rattle.std.proofs.Common.{◌∙◌, ap, rules}
-use Rattle.std.specs.Prelude.{not}
-use Rattle.std.proofs.lemmas.Map.Made.{filter_same_pairs}
-use Rattle.dht_types.specs.Gfid.{Entry, same_gfid}
-use Rattle.dht_types.specs.declared.names.EntryKey.{EntryKey}
+use Rattle.std.proofs.Common.{◌<◌, ◌∙◌, ap, sym, subst}
+use Rattle.std.specs.FinMap.{len}
+use Rattle.dht_brick.specs.Contents.{Slots, entry_at}
+use Rattle.dht_brick.specs.Parts.{slots_outside}
 use Rattle.dht_names.specs.Kept.{slots_in}
-use Rattle.dht_names.specs.declared.kept.KeptSlot.{KeptSlot}
-use Rattle.dht_names.proofs.SlotLemmas.{slots_from, retain-slots}
+use Rattle.dht_names.proofs.RangeLemmas.{fewer, outside_less}
 use Rattle.dht_names.proofs.slots.SlotTable.drop_dir.Goals as goal
 
+pub loop-key-smaller : goal.loop-key-smaller
+loop-key-smaller c =
+    let m = slots_in c.loop-key.self in
+    subst (λ (x : Slots). len x < len m) (sym c.remove.ensures) (fewer m (entry_at c.in-Some.key) c.in-Some.ensures.there)
+
+pub loop-key-preserved : goal.loop-key-preserved
+loop-key-preserved c =
+    ap (λ (x : Slots). slots_outside x c.args.dir) c.remove.ensures
+    ∙ outside_less (slots_in c.loop-key.self) c.args.dir (entry_at c.in-Some.key) c.in-Some.ensures.in_dir ∙ c.loop-key.invariant
+
 pub returns : goal.returns
-unfolding slots_in
-returns c =
-    ap slots_from (filter_same_pairs _ (λ (e : EntryKey × KeptSlot). not (same_gfid c.args.dir e.0.dir)) _ (λ k v b w f' t. search rules) c.args.self.now.kept.entries c.retain.new.self.entries c.retain.ensures.filtered)
-    ∙ retain-slots (λ (e : Entry). not (same_gfid c.args.dir e.0)) c.args.self.now.kept.entries
+returns c = sym c.in_default.ensures.none ∙ c.loop-key.invariant

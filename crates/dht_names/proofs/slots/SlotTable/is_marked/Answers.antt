@@ -1,11 +1,9 @@
-use Rattle.std.proofs.Common.{◌∙◌, sym}
-use Rattle.dht_brick.specs.Links.{is_marked}
-use Rattle.dht_brick.specs.Parts.{is_contested}
-use Rattle.dht_types.specs.declared.stored.Slot.{Slot}
-use Rattle.dht_names.specs.Kept.{slots_in}
-use Rattle.dht_names.proofs.SlotLemmas.{any-slots}
+use Rattle.std.proofs.Common.{◌∙◌, ap, not}
+use Rattle.std.specs.Prelude.{◌==◌}
+use Rattle.dht_names.specs.Counts.{tallies_in}
+use Rattle.dht_names.specs.Slots.{map_in}
+use Rattle.dht_names.proofs.TableCounts.{marks_counted}
 use Rattle.dht_names.proofs.slots.SlotTable.is_marked.Goals as goal
 
 pub returns : goal.returns
-unfolding slots_in is_marked
-returns c = c.is_one_marked.ensures.any ∙ sym (any-slots (λ (p : Slot). is_contested c.args.file p.main) c.args.self.now.kept.entries c.is_one_marked.ensures.ordered)
+returns c = ap (λ n. not (n == 0)) c.of.ensures ∙ marks_counted (map_in c.args.self.now.map) (tallies_in c.args.self.now.counts) c.args.self.now.counted c.args.file

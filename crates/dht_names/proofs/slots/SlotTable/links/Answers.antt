@@ -1,18 +1,20 @@
-use Rattle.std.proofs.Common.{◌∙◌, ◌+◌, ap, sym}
-use Rattle.std.specs.Prelude.{count_by}
-use Rattle.dht_brick.specs.Links.{links}
-use Rattle.dht_brick.specs.Parts.{is_file, is_standlink}
-use Rattle.std.specs.FinMap.{values}
-use Rattle.dht_types.specs.declared.stored.Slot.{Slot}
-use Rattle.dht_names.specs.Kept.{slots_in}
-use Rattle.dht_names.proofs.SlotLemmas.{count-slots, slots_from}
+use Rattle.std.proofs.Common.{arith, ◌+◌, ◌∙◌, ap, refl}
+use Rattle.dht_names.specs.Counts.{counter, tallies_in}
+use Rattle.dht_names.specs.Slots.{map_in}
+use Rattle.dht_names.specs.declared.counts.Kind.TheVariants.{Named, Readied}
+use Rattle.dht_names.proofs.TableCounts.{links_counted, few_counts}
 use Rattle.dht_names.proofs.slots.SlotTable.links.Goals as goal
 
+pub overflow_add-result : goal.overflow_add-result
+overflow_add-result c =
+    let few = few_counts (map_in c.args.self.now.map) (tallies_in c.args.self.now.counts) (tallies_in c.args.self.now.counts) c.args.self.now.counted (λ g k. refl) c.len.result c.len.ensures.len c.len.ensures.few in
+    let named = few c.args.file Named in
+    let readied = few c.args.file Readied in
+    let a = c.of.ensures in
+    let b = c.of-2.ensures in
+    omega (arith, named, readied, a, b)
+
 pub returns : goal.returns
-unfolding slots_in links
 returns c =
-    let es = c.args.self.now.kept.entries in
-    let o = c.files_among.ensures.ordered in
-    let f = c.args.file in
-    ap (λ n. n + c.readied_among.result) (c.files_among.ensures.count ∙ sym (count-slots (λ (p : Slot). is_file f p.main) es o))
-    ∙ ap (λ n. count_by (λ (p : Slot). is_file f p.main) (values (slots_from es)) + n) (c.readied_among.ensures.count ∙ sym (count-slots (λ (p : Slot). is_standlink f p.standby) es o))
+    ap (λ n. n + c.of-2.result) c.of.ensures ∙ ap (λ n. counter (tallies_in c.args.self.now.counts) c.args.file Named + n) c.of-2.ensures
+    ∙ links_counted (map_in c.args.self.now.map) (tallies_in c.args.self.now.counts) c.args.self.now.counted c.args.file

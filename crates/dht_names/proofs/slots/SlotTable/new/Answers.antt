@@ -1,8 +1,7 @@
-use Rattle.std.proofs.Common.{ap}
-use Rattle.dht_names.specs.Kept.{slots_in}
-use Rattle.dht_names.proofs.SlotLemmas.{slots_from}
+use Rattle.dht_names.specs.Counts.{tallies_in}
+use Rattle.dht_names.specs.Slots.{map_in}
+use Rattle.dht_names.proofs.TableCounts.{none_counted}
 use Rattle.dht_names.proofs.slots.SlotTable.new.Goals as goal
 
-pub returns : goal.returns
-unfolding slots_in
-returns c = ap slots_from c.new.ensures.empty
+pub invariant_of-result : goal.invariant_of-result
+invariant_of-result c = record { counted = none_counted (map_in c.new.result) (tallies_in c.new-2.result) c.new.ensures c.new-2.ensures }

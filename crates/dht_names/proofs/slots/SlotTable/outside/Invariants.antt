@@ -5,4 +5,4 @@ use Rattle.dht_names.proofs.slots.SlotTable.outside.Given as goal
 
 -- the slots that are left, put over those so far, are all
 abbrev pub invariant-loop-key : goal.invariant-loop-key
-invariant-loop-key l = put_onto l.key-iterator.iter (slots_in l.table) ≡ slots_from l.self.kept.entries
+invariant-loop-key l = put_onto l.key-iterator.iter (slots_in l.table) ≡ slots_from l.self.map.kept.entries

@@ -18,6 +18,6 @@ loop-part-preserved c =
     let left = c.next.new.self.iter.rest.now in
     let part = c.in-Some.part.now in
     let slots = slots_in c.loop-part.table in
-    ap (slots_restored g left) (c.in_ok-insert.ensures.ok ∙ ap (λ (p : Slot). insert slots (g, part.name) p) c.in_ok-of.ensures)
+    ap (slots_restored g left) (c.in_ok-put.ensures.ok ∙ ap (λ (p : Slot). insert slots (g, part.name) p) c.in_ok-of.ensures)
     ∙ sym (slots_restored-push g left part slots)
     ∙ ap (λ it. slots_restored g it slots) (sym c.in-Some.ensures.steps) ∙ c.loop-part.invariant

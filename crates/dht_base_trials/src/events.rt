@@ -1,0 +1,125 @@
+//! The lines of schedules, read.
+
+use crate::tables::compare;
+use dht_sched::{LineFault, read_line};
+use dht_types::calls::Call;
+use dht_types::events::Event;
+use std::alloc::{AllocError, Global};
+use std::test::Fail;
+
+const TABLE: &str = "
+    # the event of a line, which stands between bars; the name of a call in hexadecimal digits
+    read |step 0| = step 0
+    read |volume 3 0 1000 0| = volume [0, 1000, 0]
+    read |call 0 lookup @ a| = call 0 lookup 00000000-0000-0000-0000-000000000001 61
+    read |call 0 create @ a%20%25%7f%ffz~!| = call 0 create 00000000-0000-0000-0000-000000000001 \
+6120257fff7a7e21
+
+    # lines that are no event's
+    read || = malformed
+    read | | = malformed
+    read |step| = malformed
+    read |step | = malformed
+    read |step 1| = malformed
+    read |step 00| = malformed
+    read |step +0| = malformed
+    read |step 0 | = malformed
+    read | step 0| = malformed
+    read |step  0| = malformed
+    read |step\t0| = malformed
+    read |step 0 0| = malformed
+    read |step @| = malformed
+    read |Step 0| = malformed
+    read |stop 0| = malformed
+    read |volume| = malformed
+    read |volume 1| = malformed
+    read |volume 0| = malformed
+    read |volume 2 0 0| = malformed
+    read |volume 2 1| = malformed
+    read |volume 1 1 0| = malformed
+    read |volume 1 01| = malformed
+    read |volume 01 1| = malformed
+    read |volume 1 1001| = malformed
+    read |volume 1 65537| = malformed
+    read |volume 1 18446744073709551617| = malformed
+    read |volume 33 1 0 0 0 0 0 0 0 0 0 0 0 0 0 0 0 0 0 0 0 0 0 0 0 0 0 0 0 0 0 0 0 0| = malformed
+    read |call| = malformed
+    read |call 0| = malformed
+    read |call 0 create| = malformed
+    read |call 0 create @| = malformed
+    read |call 0 create @ | = malformed
+    read |call 0 create @ a b| = malformed
+    read |call 1 create @ a| = malformed
+    read |call 0 unlink @ a| = malformed
+    read |call 0 create @1 a| = malformed
+    read |call 0 create 00000000-0000-0000-0000-000000000001 a| = malformed
+    read |call 0 lookup @ .| = malformed
+    read |call 0 lookup @ ..| = malformed
+    read |call 0 lookup @ a/b| = malformed
+    read |call 0 lookup @ %00| = malformed
+
+    # names that no word spells so
+    read |call 0 create @ %-| = malformed
+    read |call 0 create @ %| = malformed
+    read |call 0 create @ %2| = malformed
+    read |call 0 create @ %61| = malformed
+    read |call 0 create @ %2G| = malformed
+    read |call 0 create @ %2A| = malformed
+    read |call 0 create @ %ZZ| = malformed
+    read |call 0 create @ a%| = malformed
+
+    # names of so many bytes
+    long 255 = 255
+    long 256 = malformed
+";
+
+/// A call, with its name in hexadecimal digits.
+fn call_told(alloc: Global, call: &Call) -> Result<String, AllocError> {
+    let (verb, directory, name) = match call {
+        Call::Lookup(directory, name) => ("lookup", directory, name),
+        Call::Create(directory, name) => ("create", directory, name),
+    };
+    let directory = String::from_utf8_lossy(alloc, &directory.text())?;
+    let name = hex::encode(alloc, name.as_bytes())?;
+    format!(in alloc; "{verb} {directory} {name}")
+}
+
+/// What was read of a line.
+fn told(alloc: Global, read: Result<Event, LineFault>) -> Result<String, AllocError> {
+    match read {
+        Ok(Event::Volume(weights)) => format!(in alloc; "volume {:?}", weights.as_slice()),
+        Ok(Event::Call(client, call)) => {
+            format!(in alloc; "call {client} {}", call_told(alloc, &call)?)
+        }
+        Ok(Event::Step(client)) => format!(in alloc; "step {client}"),
+        Err(LineFault::Malformed) => format!(in alloc; "malformed"),
+        Err(LineFault::OutOfMemory) => Err(AllocError),
+    }
+}
+
+/// The event of a line that stands between bars.
+pub fn read_told(alloc: Global, words: &str) -> Result<String, AllocError> {
+    let line = words.strip_prefix('|').unwrap_or(words);
+    let line = line.strip_suffix('|').unwrap_or(line);
+    told(alloc, read_line(alloc, line.as_bytes()))
+}
+
+/// The length of a name of so many bytes, as it is read.
+pub fn long_told(alloc: Global, words: &str) -> Result<String, AllocError> {
+    let mut line = b"call 0 create @ ".to_vec(alloc)?;
+    for _ in 0..words.parse().unwrap_or(0u64) {
+        line.push(b'n')?;
+    }
+    match &read_line(alloc, &line) {
+        Ok(Event::Call(_, Call::Create(_, name))) => {
+            format!(in alloc; "{}", name.as_bytes().len())
+        }
+        _ => format!(in alloc; "malformed"),
+    }
+}
+
+#[test]
+fn lines_of_schedules(rt: HostRuntime) -> Result<(), Fail> {
+    compare(&rt, TABLE)?;
+    Ok(())
+}

@@ -1,0 +1,193 @@
+//! The lines of transcripts, dumps and commands, printed.
+
+use dht_sched::{
+    print_dump_line, print_hash, print_line, print_malformed, print_range, print_usage,
+};
+use dht_types::bytes::Bytes;
+use dht_types::calls::{Answer, Call, TreeStep};
+use dht_types::errors::Errno;
+use dht_types::identifiers::{BrickNo, CallNo, ClientNo, Gfid};
+use dht_types::lines::{Cause, DumpLine, Line, RecordLine, Refusal, ReplyKind, RequestKind};
+use dht_types::names::Name;
+use dht_types::stored::{Main, Slot, Standby};
+use dht_types::volumes::Weights;
+use std::alloc::{AllocError, Global};
+use std::test::Fail;
+
+const TRANSCRIPT: &str = "\
+volume 2 0 7
+call 12 1 lookup 00000000-0000-0000-0000-000000000001 a%20b%25%7f
+call 12 1 create 00000000-0000-0000-0000-000000000001 a%20b%25%7f
+tree 12 add-file 00000000-0000-0000-0000-000000000001 a%20b%25%7f 00000001-0000-0000-0000-000000010002
+refused 7 busy
+refused 7 idle
+step 12 1 3 lock ok
+step 12 1 3 unlock ok
+step 12 1 3 look refused:nodir
+step 12 1 3 dirinfo nomem
+step 12 1 3 create refused:slot
+step 12 1 3 mkstandby failed
+step 12 1 3 lwrite down
+answer 12 1 at 34 file 00000001-0000-0000-0000-000000010002
+answer 12 1 at 34 made 00000001-0000-0000-0000-000000010002
+answer 12 1 at 34 eexist
+answer 12 1 enomem
+";
+
+const STEPS: [(RequestKind, ReplyKind); 7] = [
+    (RequestKind::Lock, ReplyKind::Ok),
+    (RequestKind::Unlock, ReplyKind::Ok),
+    (RequestKind::Look, ReplyKind::Refused(Refusal::Nodir)),
+    (RequestKind::Dirinfo, ReplyKind::NoMemory),
+    (RequestKind::Create, ReplyKind::Refused(Refusal::Slot)),
+    (RequestKind::MakeStandby, ReplyKind::Failed),
+    (RequestKind::LockedWrite, ReplyKind::Down),
+];
+
+const DUMP: &str = "\
+brick 3 up
+brick 3 down
+dir 3 00000000-0000-0000-0000-000000000001 -
+dir 3 00000000-0000-0000-0000-000000000001 x
+dir 3 00000000-0000-0000-0000-000000000001 00abff
+slot 3 00000000-0000-0000-0000-000000000001 a%20b%25 data 00000001-0000-0000-0000-000000010002 -
+slot 3 00000000-0000-0000-0000-000000000001 a%20b%25 data 00000001-0000-0000-0000-000000010002 over 1 -
+slot 3 00000000-0000-0000-0000-000000000001 a%20b%25 dir 00000001-0000-0000-0000-000000010002 -
+slot 3 00000000-0000-0000-0000-000000000001 a%20b%25 linkto x627269636b2d3000 link 00000001-0000-0000-0000-000000010002
+slot 3 00000000-0000-0000-0000-000000000001 a%20b%25 - copy 00000001-0000-0000-0000-000000010002
+file 3 00000001-0000-0000-0000-000000010002 live 0 1 2 e3e3e3e3e3e3e3e3e3e3e3e3e3e3e3e3e3e3e3e3e3e3e3e3e3e3e3e3e3e3e3e3
+file 3 00000001-0000-0000-0000-000000010002 moving 4 1 2 e3e3e3e3e3e3e3e3e3e3e3e3e3e3e3e3e3e3e3e3e3e3e3e3e3e3e3e3e3e3e3e3 7
+file 3 00000001-0000-0000-0000-000000010002 standby 5 6 2 e3e3e3e3e3e3e3e3e3e3e3e3e3e3e3e3e3e3e3e3e3e3e3e3e3e3e3e3e3e3e3e3 dirty
+file 3 00000001-0000-0000-0000-000000010002 forward 7 5
+end
+";
+
+const COMMANDS: &str = "\
+malformed 18446744073709551615
+usage: dhtvol replay, serve, hash, layout, bulk
+02345678 a%20b%25%ff
+ffffffff %-
+31 -
+2 000000000000000000417874ffffffff
+";
+
+/// The file of the lines.
+const MADE: Gfid = Gfid(0x1_0000_0000_0000_0000_0001_0002);
+
+/// The lines of a transcript.
+fn lines(alloc: Global) -> Result<Vec<Line>, AllocError> {
+    let (call, client, root) = (CallNo(12), ClientNo(1), Gfid::ROOT);
+    let name = Name::of(b"a b%\x7f");
+    let mut lines = vec![in alloc;
+        Line::Volume(Weights::new(vec![in alloc; 0, 7]?)),
+        Line::Called(call, client, Call::Lookup(root, name)),
+        Line::Called(call, client, Call::Create(root, name)),
+        Line::Tree(call, TreeStep::AddFile(root, name, MADE)),
+        Line::Refused(7, Cause::Busy),
+        Line::Refused(7, Cause::Idle),
+    ]?;
+    for (kind, reply) in STEPS {
+        lines.push(Line::Stepped(call, client, BrickNo(3), kind, reply))?;
+    }
+    let exists = Answer::Fault(Errno::Eexist);
+    lines.push(Line::Answered(call, client, Some(34), Answer::File(MADE)))?;
+    lines.push(Line::Answered(call, client, Some(34), Answer::Made(MADE)))?;
+    lines.push(Line::Answered(call, client, Some(34), exists))?;
+    lines.push(Line::Answered(call, client, None, Answer::Fault(Errno::Enomem)))?;
+    Ok(lines)
+}
+
+/// The dump line of a slot.
+fn slot(main: Option<Main>, standby: Option<Standby>) -> DumpLine {
+    let slot = Slot { main, standby };
+    DumpLine::Slot(BrickNo(3), Gfid::ROOT, Name::of(b"a b%"), slot)
+}
+
+/// The dump lines of directories and slots.
+fn names(alloc: Global) -> Result<Vec<DumpLine>, AllocError> {
+    let (brick, root) = (BrickNo(3), Gfid::ROOT);
+    let empty = Bytes::new(Vec::new(alloc));
+    let value = Bytes::new(vec![in alloc; 0, 0xab, 0xff]?);
+    let linkto = Bytes::new(b"brick-0\0".to_vec(alloc)?);
+    Ok(vec![in alloc;
+        DumpLine::Brick(brick, true),
+        DumpLine::Brick(brick, false),
+        DumpLine::Dir(brick, root, None),
+        DumpLine::Dir(brick, root, Some(empty)),
+        DumpLine::Dir(brick, root, Some(value)),
+        slot(Some(Main::File(MADE, None)), None),
+        slot(Some(Main::File(MADE, Some(BrickNo(1)))), None),
+        slot(Some(Main::Dir(MADE)), None),
+        slot(Some(Main::Linkto(linkto)), Some(Standby::StandLink(MADE))),
+        slot(None, Some(Standby::Copy(MADE))),
+    ]?)
+}
+
+const RECORDS: [RecordLine; 4] = [
+    RecordLine::Live {
+        hop: 0,
+        links: 1,
+        length: 2,
+        digest: [0xe3; 32],
+    },
+    RecordLine::Moving {
+        hop: 4,
+        links: 1,
+        length: 2,
+        digest: [0xe3; 32],
+        dest: BrickNo(7),
+    },
+    RecordLine::Standby {
+        hop: 5,
+        source: BrickNo(6),
+        length: 2,
+        digest: [0xe3; 32],
+        is_dirty: true,
+    },
+    RecordLine::Forward {
+        brick: BrickNo(7),
+        hop: 5,
+    },
+];
+
+#[test]
+fn lines_of_transcripts(rt: HostRuntime) -> Result<(), Fail> {
+    let mut out = Vec::new(rt.alloc());
+    for line in &lines(rt.alloc())? {
+        print_line(line, &mut out)?;
+    }
+    let text = String::from_utf8_lossy(rt.alloc(), &out)?;
+    assert_eq!(rt; text.as_str(), TRANSCRIPT);
+    Ok(())
+}
+
+#[test]
+fn lines_of_dumps(rt: HostRuntime) -> Result<(), Fail> {
+    let mut lines = names(rt.alloc())?;
+    for record in RECORDS {
+        lines.push(DumpLine::File(BrickNo(3), MADE, record))?;
+    }
+    lines.push(DumpLine::End)?;
+    let mut out = Vec::new(rt.alloc());
+    for line in &lines {
+        print_dump_line(line, &mut out)?;
+    }
+    let text = String::from_utf8_lossy(rt.alloc(), &out)?;
+    assert_eq!(rt; text.as_str(), DUMP);
+    Ok(())
+}
+
+#[test]
+fn last_lines_and_lines_of_commands(rt: HostRuntime) -> Result<(), Fail> {
+    let mut out = Vec::new(rt.alloc());
+    print_malformed(18446744073709551615, &mut out)?;
+    print_usage(&mut out)?;
+    print_hash(0x0234_5678, b"a b%\xff", &mut out)?;
+    print_hash(0xffff_ffff, b"", &mut out)?;
+    print_range(BrickNo(31), &None, &mut out)?;
+    let value = b"\0\0\0\0\0\0\0\0\0\x41\x78\x74\xff\xff\xff\xff".to_vec(rt.alloc())?;
+    print_range(BrickNo(2), &Some(Bytes::new(value)), &mut out)?;
+    let text = String::from_utf8_lossy(rt.alloc(), &out)?;
+    assert_eq!(rt; text.as_str(), COMMANDS);
+    Ok(())
+}

@@ -1,0 +1,118 @@
+//! `Logged`: whether the bricks' journals tell what the lines do.
+
+use crate::history::{is_change, line_owed};
+use crate::verdict::{Definition, require};
+use dht_types::calls::TreeStep;
+use dht_types::identifiers::{BrickNo, CallNo, ClientNo, Gfid};
+use dht_types::lines::{Line, ReplyKind, RequestKind};
+use dht_types::names::Name;
+
+/// An entry of a brick's journal.
+#[derive(Clone, Copy)]
+pub struct Entry {
+    /// Whose journal it is.
+    pub brick: BrickNo,
+    /// Who asked.
+    pub client: ClientNo,
+    /// In which call.
+    pub call: CallNo,
+    /// What was asked.
+    pub request: RequestKind,
+    /// What was replied.
+    pub reply: ReplyKind,
+    /// The directory that the request names, or else a file.
+    pub directory: Gfid,
+    /// The name in it, or else the empty one.
+    pub name: Name,
+}
+
+/// Which entries of a journal are counted.
+#[derive(Clone, Copy)]
+enum Among {
+    /// All of them, each of which has a step line.
+    All,
+    /// Those that changed the tree, each of which has a tree line.
+    Changes,
+}
+
+/// The entry of this number, from 0, in a brick's journal; or among those that changed the tree.
+fn entry_at(entries: &[Entry], brick: BrickNo, number: usize, among: Among) -> Option<Entry> {
+    let mut count = 0usize;
+    for entry in entries {
+        let counts = match among {
+            Among::All => true,
+            Among::Changes => is_change(entry.request, entry.reply),
+        };
+        if entry.brick == brick && counts {
+            if count == number {
+                return Some(*entry);
+            }
+            count = count.saturating_add(1);
+        }
+    }
+    None
+}
+
+/// How many step lines a brick has.
+fn steps_at(past: &[Line], brick: BrickNo) -> usize {
+    let mut count = 0usize;
+    for line in past {
+        if let Line::Stepped(_, _, at, _, _) = line {
+            if *at == brick {
+                count = count.saturating_add(1);
+            }
+        }
+    }
+    count
+}
+
+/// How many tree lines stand under a brick's step lines.
+fn changes_at(past: &[Line], brick: BrickNo) -> usize {
+    let mut count = 0usize;
+    for (index, line) in past.iter().enumerate() {
+        if let (Line::Tree(_, _), Some(owed)) = (line, line_owed(&past[..index])) {
+            if owed.brick == brick {
+                count = count.saturating_add(1);
+            }
+        }
+    }
+    count
+}
+
+/// The journal of the line's brick has the entry that the line tells of, at its place.
+pub fn logged(past: &[Line], line: &Line, entries: &[Entry]) -> Result<(), Definition> {
+    let is_logged = match (line, line_owed(past)) {
+        (Line::Stepped(call, client, brick, request, reply), _) => {
+            match entry_at(entries, *brick, steps_at(past, *brick), Among::All) {
+                Some(entry) => {
+                    entry.client == *client
+                        && entry.call == *call
+                        && entry.request == *request
+                        && entry.reply == *reply
+                }
+                None => false,
+            }
+        }
+        (Line::Tree(_, TreeStep::AddFile(directory, name, _)), Some(owed)) => {
+            let number = changes_at(past, owed.brick);
+            match entry_at(entries, owed.brick, number, Among::Changes) {
+                Some(entry) => entry.directory == *directory && entry.name.same(name),
+                None => false,
+            }
+        }
+        _ => true,
+    };
+    require(is_logged, Definition::Logged)
+}
+
+/// The lines tell of every entry of the journals.
+pub fn all_told(lines: &[Line], entries: &[Entry]) -> Result<(), Definition> {
+    for entry in entries {
+        let steps = steps_at(lines, entry.brick);
+        let changes = changes_at(lines, entry.brick);
+        let is_told = entry_at(entries, entry.brick, steps, Among::All).is_none()
+            && entry_at(entries, entry.brick, changes, Among::Changes).is_none();
+        require(is_told, Definition::Logged)?;
+    }
+    Ok(())
+}

@@ -1,0 +1,3 @@
+pub mod AwaitedLemmas
+pub mod HoldLemmas
+pub mod LockLemmas

@@ -1,7 +1,0 @@
-use Rattle.std.proofs.Common.{ap}
-use Rattle.dht_membrick.specs.Held.{locks, mode_in}
-use Rattle.dht_membrick.proofs.locks.LockRows.new.Goals as goal
-
-pub returns : goal.returns
-unfolding locks mode_in
-returns c = ap mode_in c.new.ensures.items

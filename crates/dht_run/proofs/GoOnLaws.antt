@@ -1,0 +1,187 @@
+-- One event after another: what the loop over them keeps true, and how it ends.
+use Rattle.std.proofs.Common.{◌≡◌, ◌+◌, ◌≤◌, ◌<◌, ℕ, List, [], ◌∷◌, ◌++◌, refl, sym, ap, ◌∙◌, subst, inl, inr, length, take, arith}
+use Rattle.std.specs.Prelude.{Option, Some, None, IfSome, IfOk, Ok, Result}
+use Rattle.std.proofs.lemmas.List.{take_all}
+use Rattle.dht_types.specs.declared.events.Event.{Event}
+use Rattle.dht_types.specs.declared.lines.Line.{Line}
+use Rattle.dht_sched.specs.Transcript.{lines_text}
+use Rattle.dht_world.specs.Places.{IsAt}
+use Rattle.dht_brick.specs.declared.brick.Brick.{Ghosts as BrickGhosts}
+use Rattle.dht_section.specs.declared.caller.Caller.{Ghosts as CallerGhosts}
+use Rattle.dht_world.specs.declared.events.World.{World}
+use Rattle.dht_run.specs.LineReader.{Reader, input_of, HasNoNewline}
+use Rattle.dht_types.specs.Faults.{HasFault}
+use Rattle.dht_run.specs.Outside.{before_told, after_told, IsAtEnd}
+use Rattle.dht_run.specs.Replay.{IsMalformed, IsAfterFirst}
+use Rattle.dht_run.specs.SoFar.{Carried, SoFar, Reached, ReachedBad, Stopped, EndsSo, Wrote, WroteInPart}
+use Rattle.dht_run.specs.declared.ending.Ending.{Ending}
+use Rattle.dht_run.specs.declared.ending.Ending.TheVariants.{Done, Usage, Malformed, SourceFailed, SinkFailed, OutOfMemory}
+use Rattle.dht_sched.specs.Schedule.{schedule_text, IsScheduled, IsOneLine}
+use Rattle.dht_run.specs.NextEvent.{CutsEvent, HasNoEvent}
+use Rattle.dht_run.specs.Replay.{schedule_of, MayCome}
+use Rattle.dht_run.specs.Written.{IsCause}
+use Rattle.dht_run.proofs.FinishLaws.{written_prefix, written_all}
+use Rattle.dht_run.proofs.ReplayLaws.{carried_more, cut_more, lines_text-append, malformed_after, misplaced}
+
+-- one event more
+pub so_far_more : {B C : Type 0} (b : BrickGhosts B) (c : CallerGhosts C) (w v : World B C) (count : ℕ) (old new : Reader) (e : Event) (bl al : Option (List ℕ)) (taken told : Option (List ℕ)) → CutsEvent old new bl al e → IsAfterFirst e → v.lines ≤ w.lines + 3
+    → ((past : List Line) → IsAt b c w past → (lines : List Line) × Wrote b c w v (count + 1) e past lines taken told (lines_text lines))
+    → (text before : Option (List ℕ)) → SoFar b c w count old text bl before taken → SoFar b c v (count + 1) new text al before told
+so_far_more b c w v count old new e bl al taken told cuts later grows wrote text before h =
+    let a = wrote h.lines h.carried.at in
+    record {
+      events = h.events ++ e ∷ [];
+      lines = h.lines ++ a.0;
+      carried = carried_more b c w v count old new text bl al h.events h.lines a.0 e h.cut cuts later grows a.1.advances h.carried;
+      cut = cut_more old new bl al h.events e h.cut cuts;
+      written = written_all before taken told (lines_text h.lines) (lines_text a.0) h.written a.1.written ∙ ap (after_told before) (sym (lines_text-append h.lines a.0));
+    }
+
+told_nothing : (x : Option (List ℕ)) → before_told [] x ≡ x
+told_nothing None = refl
+told_nothing (Some xs) = refl
+
+carried_from : {B C : Type 0} (b : BrickGhosts B) (c : CallerGhosts C) (w : World B C) (count : ℕ) (text was now : Option (List ℕ)) (events : List Event) (lines : List Line) → was ≡ now → Carried b c w count text was events lines → Carried b c w count text now events lines
+carried_from b c w count text was now events lines e h = subst (λ (o : Option (List ℕ)). Carried b c w count text o events lines) e h
+
+-- at the end of the input
+pub end_reached : {B C : Type 0} (b : BrickGhosts B) (c : CallerGhosts C) (w : World B C) (count : ℕ) (old new : Reader) (text bl al before taken : Option (List ℕ)) → input_of new al ≡ input_of old bl → new.pending ≡ [] → IsAtEnd (input_of old bl) → SoFar b c w count old text bl before taken → Reached b c w count text al before taken × IsAtEnd al
+end_reached b c w count old new text bl al before taken same none end h =
+    let e : input_of old bl ≡ al = sym same ∙ (ap (λ xs. before_told xs al) none ∙ told_nothing al) in (
+      record {
+        events = h.events;
+        lines = h.lines;
+        carried = carried_from b c w count text (input_of old bl) al h.events h.lines e h.carried;
+        written = h.written;
+      },
+      subst IsAtEnd e end,
+    )
+
+-- what comes next is no event that may come
+pub bad_reached : {B C : Type 0} (b : BrickGhosts B) (c : CallerGhosts C) (w : World B C) (count : ℕ) (old : Reader) (text bl before taken : Option (List ℕ)) (h : SoFar b c w count old text bl before taken) → IfSome (input_of old bl) (IsMalformed h.events) → ReachedBad b c w count text before taken
+bad_reached b c w count old text bl before taken h bad = record {
+  events = h.events;
+  lines = h.lines;
+  input = input_of old bl;
+  carried = h.carried;
+  malformed = bad;
+  written = h.written;
+}
+
+no_event_comes : (events : List Event) (cut : ℕ) (input : Option (List ℕ)) → 0 < length events → cut ≡ length (schedule_of events) → IfSome input (HasNoEvent cut) → IfSome input (IsMalformed events)
+no_event_comes events cut None some e h = tt
+no_event_comes events cut (Some bytes) some e h = malformed_after events cut bytes some e h
+
+pub no_event_reached : {B C : Type 0} (b : BrickGhosts B) (c : CallerGhosts C) (w : World B C) (count : ℕ) (old : Reader) (text bl before taken : Option (List ℕ)) → IfSome (input_of old bl) (HasNoEvent old.cut) → SoFar b c w count old text bl before taken → ReachedBad b c w count text before taken
+no_event_reached b c w count old text bl before taken none h =
+    let n = h.carried.counted in
+    let some = h.carried.some in
+    bad_reached b c w count old text bl before taken h (no_event_comes h.events old.cut (input_of old bl) (omega arith) h.cut none)
+
+-- a volume does not come behind the first line
+pub volume_reached : {B C : Type 0} (b : BrickGhosts B) (c : CallerGhosts C) (w : World B C) (count : ℕ) (old new : Reader) (e : Event) (text bl al before taken : Option (List ℕ)) → ((o : Event) → IsScheduled o → IsOneLine (schedule_text o)) → CutsEvent old new bl al e → ¬ IsAfterFirst e → SoFar b c w count old text bl before taken → ReachedBad b c w count text before taken
+volume_reached b c w count old new e text bl al before taken one cuts first h =
+    let n = h.carried.counted in
+    let some = h.carried.some in
+    bad_reached b c w count old text bl before taken h (misplaced h.events e (input_of old bl) (input_of new al) one cuts.scheduled (not_next h.events (omega arith)) cuts.only cuts.prefix)
+  where
+    not_next : (events : List Event) → 0 < length events → MayCome events e → ⊥
+    not_next [] more m = absurd (omega arith)
+    not_next (x ∷ xs) more m = first m.1
+
+-- the run was cut short between two events
+pub stopped_here : {B C : Type 0} (b : BrickGhosts B) (c : CallerGhosts C) (w : World B C) (count : ℕ) (r : Reader) (text bl before taken : Option (List ℕ)) → SoFar b c w count r text bl before taken → Stopped b c w text before taken
+stopped_here b c w count r text bl before taken h = record {
+  events = h.events;
+  lines = h.lines;
+  count = count;
+  input = input_of r bl;
+  carried = h.carried;
+  written = (length (lines_text h.lines), h.written ∙ ap (after_told before) (sym (take_all (length (lines_text h.lines)) (lines_text h.lines) (omega arith))));
+}
+
+-- why an event did not come
+pub none_came : {B C : Type 0} (b : BrickGhosts B) (c : CallerGhosts C) (w : World B C) (count : ℕ) (old new : Reader) (text bl al before taken : Option (List ℕ)) (ending : Ending)
+    → (ending ≡ Malformed → IfSome (input_of old bl) (HasNoEvent old.cut))
+    → (ending ≡ SourceFailed → (input_of new al ≡ input_of old bl) × HasNoNewline new.pending)
+    → (ending ≡ Done → ⊥) → (ending ≡ Usage → ⊥) → (ending ≡ SinkFailed → ⊥)
+    → SoFar b c w count old text bl before taken → EndsSo b c w count new text al before taken ending
+none_came b c w count old new text bl al before taken Done bad failed nd nu nk h = absurd (nd refl)
+none_came b c w count old new text bl al before taken Usage bad failed nd nu nk h = absurd (nu refl)
+none_came b c w count old new text bl al before taken SinkFailed bad failed nd nu nk h = absurd (nk refl)
+none_came b c w count old new text bl al before taken Malformed bad failed nd nu nk h = no_event_reached b c w count old text bl before taken (bad refl) h
+none_came b c w count old new text bl al before taken OutOfMemory bad failed nd nu nk h = stopped_here b c w count old text bl before taken h
+none_came b c w count old new text bl al before taken SourceFailed bad failed nd nu nk h = (let f = failed refl in (
+  record {
+    events = h.events;
+    lines = h.lines;
+    carried = carried_from b c w count text (input_of old bl) (input_of new al) h.events h.lines (sym f.0) h.carried;
+    written = h.written;
+  },
+  f.1,
+))
+
+-- the run was cut short while an event was carried out, or its lines were written
+pub stopped_in : {B C : Type 0} (b : BrickGhosts B) (c : CallerGhosts C) (w v : World B C) (count : ℕ) (old new : Reader) (e : Event) (text bl al before taken told : Option (List ℕ)) → CutsEvent old new bl al e → IsAfterFirst e → v.lines ≤ w.lines + 3
+    → ((past : List Line) → IsAt b c w past → WroteInPart b c w v (count + 1) e past taken told)
+    → SoFar b c w count old text bl before taken → Stopped b c v text before told
+stopped_in b c w v count old new e text bl al before taken told cuts later grows failed h = by (failed h.lines h.carried.at)
+  where
+    by : WroteInPart b c w v (count + 1) e h.lines taken told → Stopped b c v text before told
+    by (inl (at, same)) =
+        let was = h.carried.at.led.fit.same_size in
+        let now = at.led.fit.same_size in
+        let few = h.carried.few in
+        stopped_here b c v count old text bl before told (record {
+          events = h.events;
+          lines = h.lines;
+          carried = record {
+            at = at;
+            follows = h.carried.follows;
+            schedule = h.carried.schedule;
+            counted = h.carried.counted;
+            some = h.carried.some;
+            limit = h.carried.limit;
+            shorter = h.carried.shorter;
+            few = omega arith;
+            prefix = h.carried.prefix;
+          };
+          cut = h.cut;
+          written = same ∙ h.written;
+        })
+    by (inr (lines, (n, wrote))) = record {
+      events = h.events ++ e ∷ [];
+      lines = h.lines ++ lines;
+      count = count + 1;
+      input = input_of new al;
+      carried = carried_more b c w v count old new text bl al h.events h.lines lines e h.cut cuts later grows wrote.advances h.carried;
+      written = (
+        length (lines_text h.lines) + n,
+        written_prefix before taken told (lines_text h.lines) (lines_text lines) n h.written wrote.written ∙ ap (λ xs. after_told before (take (length (lines_text h.lines) + n) xs)) (sym (lines_text-append h.lines lines)),
+      );
+    }
+
+pub stopped_ends : {B C : Type 0} (b : BrickGhosts B) (c : CallerGhosts C) (w : World B C) (count : ℕ) (r : Reader) (text rest before taken : Option (List ℕ)) (fault : Type 0) (ending : Ending) → IsCause ending fault → Stopped b c w text before taken → EndsSo b c w count r text rest before taken ending
+stopped_ends b c w count r text rest before taken fault SinkFailed cause h = h
+stopped_ends b c w count r text rest before taken fault OutOfMemory cause h = h
+stopped_ends b c w count r text rest before taken fault Done (inl q) h = absurd (let z : Done ≡ SinkFailed = q.0 in cc)
+stopped_ends b c w count r text rest before taken fault Done (inr q) h = absurd (let z : Done ≡ OutOfMemory = q in cc)
+stopped_ends b c w count r text rest before taken fault Usage (inl q) h = absurd (let z : Usage ≡ SinkFailed = q.0 in cc)
+stopped_ends b c w count r text rest before taken fault Usage (inr q) h = absurd (let z : Usage ≡ OutOfMemory = q in cc)
+stopped_ends b c w count r text rest before taken fault Malformed (inl q) h = absurd (let z : Malformed ≡ SinkFailed = q.0 in cc)
+stopped_ends b c w count r text rest before taken fault Malformed (inr q) h = absurd (let z : Malformed ≡ OutOfMemory = q in cc)
+stopped_ends b c w count r text rest before taken fault SourceFailed (inl q) h = absurd (let z : SourceFailed ≡ SinkFailed = q.0 in cc)
+stopped_ends b c w count r text rest before taken fault SourceFailed (inr q) h = absurd (let z : SourceFailed ≡ OutOfMemory = q in cc)
+
+-- a fault of a part of a run is one of the run
+pub fault_since : (a b c : ℕ) → a ≤ b → HasFault b c → HasFault a c
+fault_since a b c le (inl lt) = inl (omega arith)
+fault_since a b c le (inr top) = inr top
+
+pub fault_before : (a b c : ℕ) → b ≤ c → HasFault a b → HasFault a c
+fault_before a b c le (inl lt) = inl (omega arith)
+fault_before a b c le (inr top) = inr (omega arith)
+
+-- the event that came
+pub came : (result : Result (Option Event) Ending) (next : Option Event) (e : Event) (P : Event → Type 0) → result ≡ Ok next → next ≡ Some e → IfOk result (λ o. IfSome o P) → P e
+came result next e P is some h = subst (λ (r : Result (Option Event) Ending). IfOk r (λ o. IfSome o P)) (is ∙ ap Ok some) h

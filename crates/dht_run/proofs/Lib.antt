@@ -1,0 +1,13 @@
+pub mod CommandLaws
+pub mod EventLaws
+pub mod FinishLaws
+pub mod GoOnLaws
+pub mod HeldBytes
+pub mod LineReaderLaws
+pub mod NewbornLaws
+pub mod PrintLaws
+pub mod ReplayLaws
+pub mod StartLaws
+pub mod Told
+pub mod WholeLaws
+pub mod WordLaws

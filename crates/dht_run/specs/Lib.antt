@@ -1,0 +1,12 @@
+pub mod Buffer
+pub mod Commands
+pub mod LineReader
+pub mod Memory
+pub mod NextEvent
+pub mod Outside
+pub mod Program
+pub mod Replay
+pub mod Status
+pub mod SoFar
+pub mod Writes
+pub mod Written

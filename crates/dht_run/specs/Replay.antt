@@ -1,0 +1,160 @@
+-- What a run over the bytes of a schedule does: which events it carries out, and what it writes.
+use Rattle.std.specs.Prelude.{ℕ, ◌+◌, ◌<◌, ◌≤◌, ◌≡◌, ◌≢◌, ◌⊎◌, Option, Some, IfSome, List, [], ◌∷◌, ◌++◌, length}
+use Rattle.dht_types.specs.Cost.{cost}
+use Rattle.dht_types.specs.Gfid.{Entry}
+use Rattle.dht_types.specs.Tree.{IsFile}
+use Rattle.dht_types.specs.declared.identifiers.Gfid.{Gfid}
+use Rattle.dht_types.specs.History.{PendingCall, Legal, history_of, start}
+use Rattle.dht_types.specs.declared.events.Event.{Event}
+use Rattle.dht_types.specs.declared.events.Event.TheVariants.{Volume, Call, Step}
+use Rattle.dht_types.specs.declared.lines.Line.{Line}
+use Rattle.dht_types.specs.declared.lines.DumpLine.{DumpLine}
+use Rattle.dht_types.specs.declared.lines.DumpLine.TheVariants.{End}
+use Rattle.dht_brick.specs.Bricks.{BrickState}
+use Rattle.dht_brick.specs.Dump.{dump_of}
+use Rattle.dht_brick.specs.declared.journal.JournalEntry.{JournalEntry}
+use Rattle.dht_section.specs.Scene.{Disk, Stands, Placed}
+use Rattle.dht_sched.specs.Schedule.{schedule_text, IsScheduled}
+use Rattle.dht_sched.specs.Transcript.{lines_text, dump_lines_text, malformed_text}
+use Rattle.dht_world.specs.Bricks.{disk_of, journals_of, Logged, AreReady}
+use Rattle.dht_world.specs.Following.{ComesFrom, InTimeFrom}
+use Rattle.dht_run.specs.LineReader.{HasNoNewline}
+use Rattle.dht_run.specs.Outside.{before_told, after_told, IsAtEnd}
+use Rattle.dht_run.specs.Written.{TakesPrefix}
+use Rattle.dht_run.specs.declared.ending.Ending.{Ending}
+use Rattle.dht_run.specs.declared.ending.Ending.TheVariants.{Done, Usage, Malformed, SourceFailed, SinkFailed, OutOfMemory}
+use Rattle.dht_run.specs.declared.line_reader.TheConstants.{INPUT_LIMIT}
+
+-- the text of events, a line each
+abbrev pub schedule_of : List Event → List ℕ
+schedule_of [] = []
+schedule_of (e ∷ es) = schedule_text e ++ 10 ∷ schedule_of es
+
+-- the volume comes first and alone
+abbrev pub IsAfterFirst : Event → Type 0
+IsAfterFirst (Volume w) = ⊥
+IsAfterFirst (Call c call) = Unit {0}
+IsAfterFirst (Step c) = Unit {0}
+
+abbrev pub IsFirst : Event → Type 0
+IsFirst (Volume w) = Unit {0}
+IsFirst (Call c call) = ⊥
+IsFirst (Step c) = ⊥
+
+-- the event has a line, and may come after these
+abbrev pub MayCome : List Event → Event → Type 0
+MayCome [] e = IsScheduled e × IsFirst e
+MayCome (first ∷ more) e = IsScheduled e × IsAfterFirst e
+
+-- the events are those of a schedule
+abbrev pub AreAfterFirst : List Event → Type 0
+AreAfterFirst [] = Unit {0}
+AreAfterFirst (e ∷ es) = IsScheduled e × IsAfterFirst e × AreAfterFirst es
+
+abbrev pub IsSchedule : List Event → Type 0
+IsSchedule [] = Unit {0}
+IsSchedule (e ∷ es) = IsScheduled e × IsFirst e × AreAfterFirst es
+
+-- the text is that of a whole schedule, within the limit of the input
+pub record IsWhole (text : Option (List ℕ)) : Type 0 where
+  pub events : List Event
+  pub some : events ≢ []
+  pub schedule : IsSchedule events
+  pub limit : length (schedule_of events) ≤ INPUT_LIMIT
+  pub is : text ≡ Some (schedule_of events)
+
+-- after these events, what is left of the text does not begin with a line that may come next, within the limit of the input; and it is not a schedule's end
+pub record IsMalformed (events : List Event) (rest : List ℕ) : Type 0 where
+  pub no_end : rest ≡ [] → events ≡ []
+  pub no_line : (e : Event) (more : List ℕ) → MayCome events e → rest ≡ schedule_text e ++ 10 ∷ more → length (schedule_of events) + length (schedule_text e) + 1 ≤ INPUT_LIMIT → ⊥
+
+-- the lines are a transcript of the events, over bricks that contain and served this in the end: they are legal, come from the events one by one, and agree with the bricks' journals; the bricks stand for the lines' tree, each file of which stands once, on its holder; and each call answers in time
+pub record IsTranscript (events : List Event) (lines : List Line) (d : Disk) (js : ℕ → List JournalEntry) : Type 0 where
+  pub legal : Legal lines
+  pub follows : ComesFrom start 1 events lines
+  pub logged : Logged js (history_of lines)
+  pub stands : events ≢ [] → Stands d (history_of lines).tree
+  pub placed : (e : Entry) (f : Gfid) → (history_of lines).tree.names e ≡ Some (IsFile f) → Placed d e
+  pub in_time : InTimeFrom start lines
+  pub answers : (c : ℕ) (r : PendingCall) → (history_of lines).pending c ≡ Some r → r.steps < cost (length (history_of lines).weights) r.call
+  pub counted : d.count ≡ length (history_of lines).weights
+
+-- the dump of a brick of this number
+abbrev pub brick_dump : ℕ → BrickState → List DumpLine
+brick_dump n s = dump_of (record { 0 = n }) s.is_up s.contents.store
+
+-- the dump of bricks, numbered from here
+abbrev pub dump_from : {B : Type 0} → (B → BrickState) → ℕ → List B → List DumpLine
+dump_from state n [] = []
+dump_from state n (b ∷ bricks) = brick_dump n (state b) ++ dump_from state (n + 1) bricks
+
+-- the dump of all bricks, and its end
+abbrev pub dump_all : {B : Type 0} → (B → BrickState) → List B → List DumpLine
+dump_all state bricks = dump_from state 0 bricks ++ End ∷ []
+
+-- what every run has done: a schedule's events were carried out, which are a prefix of the text; the lines are their transcript, over these bricks; each brick is up; what is left of the text is this
+pub record Replays {B : Type 0} (state : B → BrickState) (bricks : List B) (text rest : Option (List ℕ)) (events : List Event) (lines : List Line) : Type 0 where
+  pub schedule : IsSchedule events
+  pub limit : length (schedule_of events) ≤ INPUT_LIMIT
+  pub transcript : IsTranscript events lines (disk_of state bricks) (journals_of state bricks)
+  pub ready : AreReady state (history_of lines).weights (history_of lines).run bricks
+  pub prefix : text ≡ before_told (schedule_of events) rest
+
+-- the text was carried out whole, and the transcript and the dump were written
+pub record IsDone {B : Type 0} (state : B → BrickState) (bricks : List B) (text left before taken : Option (List ℕ)) : Type 0 where
+  pub events : List Event
+  pub lines : List Line
+  pub replays : Replays state bricks text left events lines
+  pub some : events ≢ []
+  pub at_end : IsAtEnd left
+  pub written : taken ≡ after_told before (lines_text lines ++ dump_lines_text (dump_all state bricks))
+
+-- an invalid line was reached; all before it was carried out, and written with a last line that has its number
+pub record StopsAtLine {B : Type 0} (state : B → BrickState) (bricks : List B) (text before taken : Option (List ℕ)) : Type 0 where
+  pub events : List Event
+  pub lines : List Line
+  pub rest : Option (List ℕ)
+  pub replays : Replays state bricks text rest events lines
+  pub malformed : IfSome rest (IsMalformed events)
+  pub written : taken ≡ after_told before (lines_text lines ++ malformed_text (length events + 1))
+
+-- the source failed; the events are all whole lines that it gave, and their whole transcript was written
+pub record StopsAtSource {B : Type 0} (state : B → BrickState) (bricks : List B) (text left before taken : Option (List ℕ)) : Type 0 where
+  pub events : List Event
+  pub lines : List Line
+  pub pending : List ℕ
+  pub replays : Replays state bricks text (before_told pending left) events lines
+  pub no_line : HasNoNewline pending
+  pub written : taken ≡ after_told before (lines_text lines)
+
+-- what stands behind the lines of the events before the n-th line at this ending: the dump, or the line of an invalid line
+abbrev pub last_text : {B : Type 0} → (B → BrickState) → List B → ℕ → Ending → List ℕ
+last_text state bricks n Done = dump_lines_text (dump_all state bricks)
+last_text state bricks n Malformed = malformed_text n
+last_text state bricks n ending = []
+
+-- what may stand behind the lines of these events where this is left of the text: nothing; the dump, where nothing is left of it; or the line of an invalid line, where what is left is malformed
+abbrev pub MayFollow : {B : Type 0} → (B → BrickState) → List B → List Event → Option (List ℕ) → List ℕ → Type 0
+MayFollow state bricks events rest last =
+    (last ≡ [])
+    ⊎ ((events ≢ []) × IsAtEnd rest × (last ≡ last_text state bricks (length events + 1) Done))
+    ⊎ (IfSome rest (IsMalformed events) × (last ≡ last_text state bricks (length events + 1) Malformed))
+
+-- the run was cut short; what was written is a prefix of the lines' text and of what may stand behind it
+pub record IsCutShort {B : Type 0} (state : B → BrickState) (bricks : List B) (text before taken : Option (List ℕ)) : Type 0 where
+  pub events : List Event
+  pub lines : List Line
+  pub rest : Option (List ℕ)
+  pub last : List ℕ
+  pub replays : Replays state bricks text rest events lines
+  pub follows : MayFollow state bricks events rest last
+  pub written : TakesPrefix before (lines_text lines ++ last) taken
+
+-- how a replay ends: by its ending, what was carried out and what was written
+abbrev pub EndsAs : {B : Type 0} → (B → BrickState) → List B → (text left before taken : Option (List ℕ)) → Ending → Type 0
+EndsAs state bricks text left before taken Done = IsDone state bricks text left before taken
+EndsAs state bricks text left before taken Malformed = StopsAtLine state bricks text before taken
+EndsAs state bricks text left before taken SourceFailed = StopsAtSource state bricks text left before taken
+EndsAs state bricks text left before taken SinkFailed = IsCutShort state bricks text before taken
+EndsAs state bricks text left before taken OutOfMemory = IsCutShort state bricks text before taken
+EndsAs state bricks text left before taken Usage = ⊥

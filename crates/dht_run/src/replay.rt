@@ -1,0 +1,473 @@
+//! A replay: the volume line, then one event after another, each one's lines written before the next
+//! is read, and at last what stands behind them.
+
+ghost use Rattle.std.specs.Prelude.{◌≡◌, ◌≢◌, ◌+◌, ◌++◌, ◌<◌, ◌≤◌, ◌^◌, ◌⊎◌, ℕ, true, false, Option, None, List, [], ◌∷◌, IfOk, OnOk, OnErr, IfErr, IfSome, length, take, vec_len};
+ghost use Rattle.dht_types.specs.declared.events.Event.{Event as AnEvent};
+ghost use Rattle.dht_types.specs.declared.lines.Line.{Line as ALine};
+ghost use Rattle.dht_types.specs.Faults.{HasFault};
+ghost use Rattle.dht_types.specs.Volume.{replay_names};
+ghost use Rattle.dht_membrick.specs.State.{mem_state};
+ghost use Rattle.dht_sched.specs.Schedule.{IsScheduledVolume};
+ghost use Rattle.dht_sched.specs.Transcript.{lines_text, dump_lines_text, malformed_text};
+ghost use Rattle.dht_world.specs.Bricks.{disk_of, journals_of, AreNewborn, AreReady};
+ghost use Rattle.dht_world.specs.Places.{IsAt};
+ghost use Rattle.dht_world.specs.World.{CanHappen};
+ghost use Rattle.dht_run.specs.Outside.{after_told, IsAtEnd};
+ghost use Rattle.dht_run.specs.LineReader.{Reader, input_of, HasNoNewline};
+ghost use Rattle.dht_run.specs.NextEvent.{CutsEvent, CutsVolume, HasNoEvent};
+ghost use Rattle.dht_run.specs.Replay.{IsAfterFirst, IsMalformed, EndsAs, dump_all, last_text};
+ghost use Rattle.dht_run.specs.declared.line_reader.TheConstants.{INPUT_LIMIT};
+ghost use Rattle.dht_run.specs.SoFar.{SoFar, EndsSo, Wrote, WroteInPart};
+ghost use Rattle.dht_run.specs.Writes.{Writes};
+ghost use Rattle.dht_run.specs.Written.{IsCause};
+
+use crate::ending::Ending;
+use crate::line_reader::{LineReader, Next};
+use crate::sink::{Sink, write_all};
+use crate::source::Source;
+use dht_brick::brick::Brick;
+use dht_client::Client;
+use dht_membrick::MemBrick;
+use dht_sched::{LineFault, one_line, print_dump_line, print_line, print_malformed, read_line};
+use dht_section::caller::Caller;
+use dht_types::events::Event;
+use dht_types::identifiers::{BrickNo, ClientNo};
+use dht_types::lines::{DumpLine, Line};
+use dht_types::volumes::{Volume, Weights};
+use dht_world::World;
+use std::alloc::{AllocError, Global};
+
+/// Appends the text of lines of a transcript.
+fn print_lines(lines: &[Line], text: &mut Vec<u8>) -> Result<(), AllocError>
+    ensures { OnOk result (text.new.items ≡ text.old.items ++ lines_text lines.now) }
+{
+    for line in lines {
+        print_line(line, text)?;
+    }
+    Ok(())
+}
+
+/// Appends the text of lines of a dump.
+fn print_dump(lines: &[DumpLine], text: &mut Vec<u8>) -> Result<(), AllocError>
+    ensures { OnOk result (text.new.items ≡ text.old.items ++ dump_lines_text lines.now) }
+{
+    for line in lines {
+        print_dump_line(line, text)?;
+    }
+    Ok(())
+}
+
+/// Writes a text to the sink, all of it or a prefix of it.
+fn send<K: Sink>(sink: &mut K, text: &[u8]) -> Result<(), Ending>
+    ensures { Writes K.Sink sink.old sink.new text.now result }
+{
+    match write_all(sink, text) {
+        Ok(()) => Ok(()),
+        Err(_) => Err(Ending::SinkFailed),
+    }
+}
+
+/// The lines of one event and their text, on their way to the sink.
+#[derive(Drop)]
+pub struct EventOutput {
+    lines: Vec<Line>,
+    text: Vec<u8>,
+}
+
+impl EventOutput {
+    /// The output of no event yet.
+    pub fn new(alloc: Global) -> EventOutput {
+        EventOutput {
+            lines: Vec::new(alloc),
+            text: Vec::new(alloc),
+        }
+    }
+
+    /// Writes the lines to the sink, all of their text or a prefix of it.
+    fn write<K: Sink>(&mut self, sink: &mut K) -> Result<(), Ending>
+        ensures lines { self.new.lines.items ≡ self.old.lines.items }
+        ensures written { Writes K.Sink sink.old sink.new (lines_text self.old.lines.items) result }
+    {
+        self.text.clear();
+        if print_lines(&self.lines, &mut self.text).is_err() {
+            return Err(Ending::OutOfMemory);
+        }
+        send(sink, &self.text)
+    }
+
+    /// Writes one line.
+    pub fn write_line<K: Sink>(&mut self, line: Line, sink: &mut K) -> Result<(), Ending>
+        ensures { Writes K.Sink sink.old sink.new (lines_text (line ∷ [])) result }
+    {
+        self.lines.clear();
+        if self.lines.push(line).is_err() {
+            return Err(Ending::OutOfMemory);
+        }
+        self.write(sink)
+    }
+}
+
+/// The next event of a schedule, or none at its end.
+fn next_event<S: Source>(
+    alloc: Global,
+    reader: &mut LineReader,
+    source: &mut S,
+) -> Result<Option<Event>, Ending>
+    ensures event { IfOk result (λ next. IfSome next
+        (CutsEvent reader.old reader.new (S.left source.old) (S.left source.new))) }
+    ensures end { result ≡ Ok None → IsAtEnd (input_of reader.old (S.left source.old)) }
+    ensures end_input { result ≡ Ok None
+        → input_of reader.new (S.left source.new) ≡ input_of reader.old (S.left source.old) }
+    ensures end_held { result ≡ Ok None → reader.new.pending ≡ [] }
+    ensures malformed { result ≡ Err Ending.Malformed
+        → IfSome (input_of reader.old (S.left source.old)) (HasNoEvent reader.old.cut) }
+    ensures failed { result ≡ Err Ending.SourceFailed
+        → HasFault (S.faults source.old) (S.faults source.new) }
+    ensures failed_input { result ≡ Err Ending.SourceFailed
+        → input_of reader.new (S.left source.new) ≡ input_of reader.old (S.left source.old) }
+    ensures failed_held { result ≡ Err Ending.SourceFailed → HasNoNewline reader.new.pending }
+    ensures no_other { (result ≢ Err Ending.Done)
+        × (result ≢ Err Ending.Usage) × (result ≢ Err Ending.SinkFailed) }
+    ensures faults { S.faults source.old ≤ S.faults source.new }
+{
+    one_line();
+    match reader.next(source) {
+        Next::Line => match read_line(alloc, reader.line()) {
+            Ok(event) => Ok(Some(event)),
+            Err(LineFault::Malformed) => Err(Ending::Malformed),
+            Err(LineFault::OutOfMemory) => Err(Ending::OutOfMemory),
+        },
+        Next::End => Ok(None),
+        Next::NoLine => Err(Ending::Malformed),
+        Next::Failed => Err(Ending::SourceFailed),
+    }
+}
+
+/// Carries out an event, that of this line of the schedule, and writes its lines.
+fn carry_out<B: Brick, C: Caller, K: Sink>(
+    world: &mut World<B, C>,
+    event: &Event,
+    line: u64,
+    sink: &mut K,
+    output: &mut EventOutput,
+) -> Result<(), Ending>
+    requires can { CanHappen event.now }
+    requires few { world.old.lines + 3 < 2 ^ 64 }
+    requires at { (past : List ALine) × IsAt B.Brick C.Caller world.old past }
+    ensures ok { OnOk result ((past : List ALine)
+        → IsAt B.Brick C.Caller world.old past
+        → (lines : List ALine) × Wrote B.Brick C.Caller world.old world.new line
+        event.now past lines (K.taken sink.old) (K.taken sink.new) (lines_text lines)) }
+    ensures err { OnErr result ((past : List ALine)
+        → IsAt B.Brick C.Caller world.old past
+        → WroteInPart B.Brick C.Caller world.old world.new line
+        event.now past (K.taken sink.old) (K.taken sink.new)) }
+    ensures cause { IfErr result (λ e.
+        IsCause e (HasFault (K.faults sink.old) (K.faults sink.new))) }
+    ensures faults { K.faults sink.old ≤ K.faults sink.new }
+    ensures grows { world.new.lines ≤ world.old.lines + 3 }
+{
+    output.lines.clear();
+    if world.event(event, line, &mut output.lines).is_err() {
+        return Err(Ending::OutOfMemory);
+    }
+    output.write(sink)
+}
+
+/// Whether an event is that of a volume line.
+fn is_volume(event: &Event) -> bool
+    ensures volume { result ≡ true → ¬ IsAfterFirst event.now }
+    ensures other { result ≡ false → IsAfterFirst event.now }
+{
+    match event {
+        Event::Volume(_) => true,
+        _ => false,
+    }
+}
+
+/// Carries out the events that come, `count` of them so far, until the input ends or something stops
+/// the run.
+fn go_on<B: Brick, C: Caller, S: Source, K: Sink>(
+    alloc: Global,
+    world: &mut World<B, C>,
+    count: &mut u64,
+    reader: &mut LineReader,
+    source: &mut S,
+    sink: &mut K,
+    output: &mut EventOutput,
+) -> Ending
+    requires so_far { (text before : Option (List ℕ))
+        × SoFar B.Brick C.Caller world.old count.old
+        reader.old text (S.left source.old) before (K.taken sink.old) }
+    ensures ends { (text before : Option (List ℕ))
+        → SoFar B.Brick C.Caller world.old count.old
+        reader.old text (S.left source.old) before (K.taken sink.old)
+        → EndsSo B.Brick C.Caller world.new count.new
+        reader.new text (S.left source.new) before (K.taken sink.new) result }
+    ensures source { result ≡ Ending.SourceFailed
+        → HasFault (S.faults source.old) (S.faults source.new) }
+    ensures sink { result ≡ Ending.SinkFailed → HasFault (K.faults sink.old) (K.faults sink.new) }
+    ensures faults { K.faults sink.old ≤ K.faults sink.new }
+    ensures few { count.new ≤ INPUT_LIMIT }
+    ensures bricks { vec_len world.new.bricks ≤ 32 }
+{
+    one_line();
+    'events: loop {
+        let event = match next_event(alloc, reader, source) {
+            Ok(Some(event)) => event,
+            Ok(None) => return Ending::Done,
+            Err(ending) => return ending,
+        };
+        if is_volume(&event) {
+            return Ending::Malformed;
+        }
+        let line = *count + 1;
+        if let Err(ending) = carry_out(world, &event, line, sink, output) {
+            return ending;
+        }
+        *count = line;
+    }
+}
+
+/// Appends the lines of what all bricks contain, and the end of the dump.
+fn dump_bricks<B: Brick>(bricks: &[B], out: &mut Vec<DumpLine>) -> Result<(), AllocError>
+    requires { length bricks.now ≤ 32 }
+    ensures { OnOk result (out.new.items ≡ out.old.items ++ dump_all B.state bricks.now) }
+{
+    let mut number = 0u16;
+    for brick in bricks {
+        brick.dump(BrickNo(number), out)?;
+        number += 1;
+    }
+    out.push(DumpLine::End)?;
+    Ok(())
+}
+
+/// Writes what all bricks contain.
+fn write_dump<B: Brick, K: Sink>(alloc: Global, bricks: &[B], sink: &mut K) -> Result<(), Ending>
+    requires { length bricks.now ≤ 32 }
+    ensures { Writes K.Sink sink.old sink.new
+        (dump_lines_text (dump_all B.state bricks.now)) result }
+{
+    let mut lines = Vec::new(alloc);
+    if dump_bricks(bricks, &mut lines).is_err() {
+        return Err(Ending::OutOfMemory);
+    }
+    let mut text = Vec::new(alloc);
+    if print_dump(&lines, &mut text).is_err() {
+        return Err(Ending::OutOfMemory);
+    }
+    send(sink, &text)
+}
+
+/// Writes that the line of this number is invalid.
+fn write_malformed<K: Sink>(alloc: Global, number: u64, sink: &mut K) -> Result<(), Ending>
+    ensures { Writes K.Sink sink.old sink.new (malformed_text number) result }
+{
+    let mut text = Vec::new(alloc);
+    if print_malformed(number, &mut text).is_err() {
+        return Err(Ending::OutOfMemory);
+    }
+    send(sink, &text)
+}
+
+/// Writes what stands behind the lines of `count` events: the dump at the end of the input, and the
+/// number of an invalid line.
+fn write_last<B: Brick, K: Sink>(
+    alloc: Global,
+    ending: Ending,
+    bricks: &[B],
+    count: u64,
+    sink: &mut K,
+) -> Result<(), Ending>
+    requires few { count ≤ INPUT_LIMIT }
+    requires bricks { length bricks.now ≤ 32 }
+    ensures { Writes K.Sink sink.old sink.new
+        (last_text B.state bricks.now (count + 1) ending) result }
+{
+    match ending {
+        Ending::Done => write_dump(alloc, bricks, sink),
+        Ending::Malformed => write_malformed(alloc, count + 1, sink),
+        _ => Ok(()),
+    }
+}
+
+/// Ends a run whose loop over the events ended so.
+fn finish<B: Brick, C: Caller, K: Sink>(
+    alloc: Global,
+    ending: Ending,
+    world: &World<B, C>,
+    count: u64,
+    sink: &mut K,
+) -> Ending
+    requires few { count ≤ INPUT_LIMIT }
+    requires bricks { vec_len world.now.bricks ≤ 32 }
+    ensures ends { (text rest before : Option (List ℕ)) (r : Reader)
+        → EndsSo B.Brick C.Caller world.now count
+        r text rest before (K.taken sink.old) ending
+        → EndsAs B.state world.now.bricks.items text rest before (K.taken sink.new) result }
+    ensures source { result ≡ Ending.SourceFailed → ending ≡ Ending.SourceFailed }
+    ensures sink { result ≡ Ending.SinkFailed
+        → (ending ≡ Ending.SinkFailed) ⊎ HasFault (K.faults sink.old) (K.faults sink.new) }
+    ensures faults { K.faults sink.old ≤ K.faults sink.new }
+{
+    match write_last(alloc, ending, &world.bricks, count, sink) {
+        Ok(()) => ending,
+        Err(fault) => fault,
+    }
+}
+
+/// Replays a schedule behind its first line, that of a volume with these weights.
+fn play<B: Brick, C: Caller, S: Source, K: Sink>(
+    alloc: Global,
+    weights: Weights,
+    world: &mut World<B, C>,
+    reader: &mut LineReader,
+    source: &mut S,
+    sink: &mut K,
+) -> Ending
+    requires first { (text : Option (List ℕ))
+        × CutsVolume reader.old text (S.left source.old) weights }
+    requires at { IsAt B.Brick C.Caller world.old (ALine.Volume weights ∷ []) }
+    requires lines { world.old.lines ≡ 1 }
+    ensures ends { (text : Option (List ℕ))
+        → CutsVolume reader.old text (S.left source.old) weights
+        → EndsAs B.state world.new.bricks.items text (S.left source.new)
+        (K.taken sink.old) (K.taken sink.new) result }
+    ensures source { result ≡ Ending.SourceFailed
+        → HasFault (S.faults source.old) (S.faults source.new) }
+    ensures sink { result ≡ Ending.SinkFailed → HasFault (K.faults sink.old) (K.faults sink.new) }
+{
+    let mut output = EventOutput::new(alloc);
+    if let Err(fault) = output.write_line(Line::Volume(weights), sink) {
+        return fault;
+    }
+    let mut count = 1;
+    let ending = go_on(alloc, world, &mut count, reader, source, sink, &mut output);
+    finish(alloc, ending, world, count, sink)
+}
+
+/// The bricks of this volume, all new: each has its number and the root with its planned range,
+/// knows the volume, and does not fail.
+fn new_bricks(alloc: Global, volume: &Volume) -> Result<Vec<MemBrick>, AllocError>
+    ensures count { IfOk result (λ v. vec_len v ≡ length volume.now.names) }
+    ensures newborn { IfOk result (λ v.
+        AreNewborn volume.now.weights (disk_of mem_state v.items) (journals_of mem_state v.items)) }
+    ensures ready { volume.now.names ≡ replay_names (length volume.now.names)
+        → IfOk result (λ v. AreReady mem_state volume.now.weights volume.now.run v.items) }
+{
+    let mut bricks = Vec::new(alloc);
+    for number in 0..volume.bricks() {
+        bricks.push(MemBrick::new(alloc, volume, BrickNo(number), true)?)?;
+    }
+    Ok(bricks)
+}
+
+/// The bricks of a new volume of these weights, in the first run. The root has its planned range on
+/// each.
+fn bricks_of(alloc: Global, weights: &Weights) -> Result<Vec<MemBrick>, Ending>
+    requires volume { IsScheduledVolume weights.now }
+    ensures count { IfOk result (λ v. vec_len v ≡ length weights.now) }
+    ensures newborn { IfOk result (λ v.
+        AreNewborn weights.now (disk_of mem_state v.items) (journals_of mem_state v.items)) }
+    ensures ready { IfOk result (λ v. AreReady mem_state weights.now 1 v.items) }
+    ensures memory { OnErr result (result ≡ Err Ending.OutOfMemory) }
+{
+    let Ok(volume) = Volume::replay(alloc, weights, 1) else {
+        return Err(Ending::OutOfMemory);
+    };
+    match new_bricks(alloc, &volume) {
+        Ok(bricks) => Ok(bricks),
+        Err(_) => Err(Ending::OutOfMemory),
+    }
+}
+
+/// The weights of the volume line, the first of the schedule.
+fn first_line<S: Source>(
+    alloc: Global,
+    reader: &mut LineReader,
+    source: &mut S,
+) -> Result<Weights, Ending>
+    requires { reader.old.cut ≡ 0 }
+    ensures volume { IfOk result (λ w.
+        CutsEvent reader.old reader.new (S.left source.old) (S.left source.new)
+        (AnEvent.Volume w)) }
+    ensures malformed { result ≡ Err Ending.Malformed
+        → IfSome (input_of reader.old (S.left source.old)) (IsMalformed []) }
+    ensures failed { result ≡ Err Ending.SourceFailed
+        → HasFault (S.faults source.old) (S.faults source.new) }
+    ensures failed_input { result ≡ Err Ending.SourceFailed
+        → input_of reader.new (S.left source.new) ≡ input_of reader.old (S.left source.old) }
+    ensures failed_held { result ≡ Err Ending.SourceFailed → HasNoNewline reader.new.pending }
+    ensures no_other { (result ≢ Err Ending.Done)
+        × (result ≢ Err Ending.Usage) × (result ≢ Err Ending.SinkFailed) }
+    ensures faults { S.faults source.old ≤ S.faults source.new }
+{
+    match next_event(alloc, reader, source) {
+        Ok(Some(Event::Volume(weights))) => Ok(weights),
+        Ok(_) => Err(Ending::Malformed),
+        Err(ending) => Err(ending),
+    }
+}
+
+/// Replays a schedule whose volume has these weights, behind its first line, over bricks in memory.
+fn replay_volume<S: Source, K: Sink>(
+    alloc: Global,
+    weights: Weights,
+    reader: &mut LineReader,
+    source: &mut S,
+    sink: &mut K,
+    bricks: &mut Vec<MemBrick>,
+) -> Ending
+    requires volume { IsScheduledVolume weights }
+    requires first { (text : Option (List ℕ))
+        × CutsVolume reader.old text (S.left source.old) weights }
+    requires empty { bricks.old.items ≡ [] }
+    ensures ends { (text : Option (List ℕ))
+        → CutsVolume reader.old text (S.left source.old) weights
+        → EndsAs mem_state bricks.new.items text (S.left source.new)
+        (K.taken sink.old) (K.taken sink.new) result }
+    ensures source { result ≡ Ending.SourceFailed
+        → HasFault (S.faults source.old) (S.faults source.new) }
+    ensures sink { result ≡ Ending.SinkFailed → HasFault (K.faults sink.old) (K.faults sink.new) }
+{
+    let Ok(made) = bricks_of(alloc, &weights) else {
+        return Ending::OutOfMemory;
+    };
+    let Ok(shown) = weights.copied(alloc) else {
+        return Ending::OutOfMemory;
+    };
+    let mut world = World::new(weights, made, Client::new(ClientNo(0)));
+    let ending = play(alloc, shown, &mut world, reader, source, sink);
+    *bricks = world.into_bricks();
+    ending
+}
+
+/// Replays the schedule that the source gives, over new bricks in memory, which are handed out.
+pub fn replay<S: Source, K: Sink>(
+    alloc: Global,
+    source: &mut S,
+    sink: &mut K,
+    bricks: &mut Vec<MemBrick>,
+) -> Ending
+    requires empty { bricks.old.items ≡ [] }
+    ensures ends { EndsAs mem_state bricks.new.items (S.left source.old) (S.left source.new)
+        (K.taken sink.old) (K.taken sink.new) result }
+    ensures source { result ≡ Ending.SourceFailed
+        → HasFault (S.faults source.old) (S.faults source.new) }
+    ensures sink { result ≡ Ending.SinkFailed → HasFault (K.faults sink.old) (K.faults sink.new) }
+{
+    let Ok(mut reader) = LineReader::new(alloc) else {
+        return Ending::OutOfMemory;
+    };
+    match first_line(alloc, &mut reader, source) {
+        Ok(weights) => replay_volume(alloc, weights, &mut reader, source, sink, bricks),
+        Err(ending) => match ending {
+            Ending::Malformed => match write_malformed(alloc, 1, sink) {
+                Ok(()) => Ending::Malformed,
+                Err(fault) => fault,
+            },
+            other => other,
+        },
+    }
+}

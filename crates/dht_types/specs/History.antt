@@ -1,0 +1,242 @@
+-- What the lines of a transcript tell, and when a transcript is legal. Nothing here speaks of bricks' contents or of programs.
+use Rattle.std.specs.Prelude.{ℕ, ◌+◌, ◌^◌, ◌<◌, ◌≤◌, ◌≡◌, nat_eq, Bool, true, false, Option, Some, None, List, [], ◌∷◌, ◌++◌}
+use Rattle.dht_types.specs.Put.{put}
+use Rattle.dht_types.specs.Gfid.{Entry, made}
+use Rattle.dht_types.specs.Tree.{Tree, first_tree, applied, Fits, Said, Do, says, answer_of}
+use Rattle.dht_types.specs.declared.identifiers.Gfid.{Gfid}
+use Rattle.dht_types.specs.declared.identifiers.CallNo.{CallNo}
+use Rattle.dht_types.specs.declared.identifiers.ClientNo.{ClientNo}
+use Rattle.dht_types.specs.declared.errors.Errno.{Errno}
+use Rattle.dht_types.specs.declared.errors.Errno.TheVariants.{Enoent, Enomem, Eexist, Einval, Enametoolong, Estale}
+use Rattle.dht_types.specs.declared.calls.Call.{Call}
+use Rattle.dht_types.specs.declared.calls.Answer.{Answer}
+use Rattle.dht_types.specs.declared.calls.Answer.TheVariants.{File, Made, Fault}
+use Rattle.dht_types.specs.declared.calls.TreeStep.{TreeStep}
+use Rattle.dht_types.specs.declared.calls.TreeStep.TheVariants.{AddFile}
+use Rattle.dht_types.specs.declared.lines.RequestKind.{RequestKind}
+use Rattle.dht_types.specs.declared.lines.RequestKind.TheVariants.{Create}
+use Rattle.dht_types.specs.declared.lines.ReplyKind.{ReplyKind}
+use Rattle.dht_types.specs.declared.lines.ReplyKind.TheVariants.{Ok as Carried}
+use Rattle.dht_types.specs.declared.lines.Line.{Line}
+use Rattle.dht_types.specs.declared.lines.Line.TheVariants.{Volume, Called, Stepped, Tree as Changed, Answered, Refused}
+
+-- a tree line of a call
+pub record Deed : Type 0 where
+  pub line : ℕ
+  pub step : TreeStep
+
+-- the tree lines of a call, in order, and what the tree before the first of them said to the call
+pub record Deeds : Type 0 where
+  pub said : Said
+  pub first : Deed
+  pub more : List Deed
+
+-- a call that has begun and not ended
+pub record PendingCall : Type 0 where
+  pub number : CallNo
+  pub call : Call
+  pub since : ℕ  -- its call line
+  pub steps : ℕ  -- how many step lines it has
+  pub deeds : Option Deeds
+
+-- what a step line tells of its brick
+pub record Act : Type 0 where
+  pub client : ClientNo
+  pub call : CallNo
+  pub request : RequestKind
+  pub reply : ReplyKind
+
+-- the tree line that must come next: that of this call, for a request of this kind that this brick carried out
+pub record Owed : Type 0 where
+  pub call : CallNo
+  pub client : ClientNo
+  pub brick : ℕ
+  pub request : RequestKind
+
+-- what the lines so far tell
+pub record History : Type 0 where
+  pub size : ℕ  -- how many lines
+  pub run : ℕ  -- the volume's run number
+  pub weights : List ℕ  -- its bricks' weights
+  pub calls : ℕ  -- how many calls were accepted
+  pub tree : Tree  -- the tree now
+  pub past : ℕ → Tree  -- the tree after that many lines
+  pub pending : ℕ → Option PendingCall  -- each client's call
+  pub acts : ℕ → List Act  -- each brick's step lines
+  pub changes : ℕ → List Entry  -- the slots of the tree lines under them
+  pub owed : Option Owed
+
+-- the gfid that a step makes
+abbrev pub made_in : TreeStep → Gfid
+made_in (AddFile d n f) = f
+
+-- the slot that a step changes
+abbrev pub slot_of : TreeStep → Entry
+slot_of (AddFile d n f) = (d, n)
+
+-- the tree lines with one more, on this tree and at this line
+abbrev pub deeds_after : Tree → ℕ → Call → Option Deeds → TreeStep → Deeds
+deeds_after t line call None step = record { said = says t call (made_in step); first = record { line = line; step = step }; more = [] }
+deeds_after t line call (Some d) step = record { said = d.said; first = d.first; more = d.more ++ record { line = line; step = step } ∷ [] }
+
+-- a request was carried out
+abbrev pub is_carried : ReplyKind → Bool
+is_carried Carried = true
+is_carried r = false
+
+-- the requests that change the tree, where they are carried out
+abbrev pub is_change : RequestKind → ReplyKind → Bool
+is_change Create r = is_carried r
+is_change q r = false
+
+abbrev pub owed_if : Bool → Owed → Option Owed
+owed_if true o = Some o
+owed_if false o = None
+
+-- the tree line that is owed after a line
+abbrev pub owed_after : Line → Option Owed
+owed_after (Stepped k c b q r) = owed_if (is_change q r) (record { call = k; client = c; brick = b.0; request = q })
+owed_after line = None
+
+-- a call that was accepted at this line
+abbrev pub accepted : ℕ → CallNo → Call → PendingCall
+accepted line k call = record { number = k; call = call; since = line; steps = 0; deeds = None }
+
+-- a pending call with one more step line, or with the tree line of this step at this line
+abbrev pub stepped : Option PendingCall → Option PendingCall
+stepped None = None
+stepped (Some r) = Some (record r { steps = r.steps + 1 })
+
+abbrev pub did : Tree → ℕ → TreeStep → Option PendingCall → Option PendingCall
+did t line step None = None
+did t line step (Some r) = Some (record r { deeds = Some (deeds_after t line r.call r.deeds step) })
+
+-- the history with a step of the tree, which is that of the request whose tree line was owed
+abbrev pub with_step : History → TreeStep → Option Owed → History
+with_step s step None = record s { tree = applied step s.tree }
+with_step s step (Some o) = record s {
+  tree = applied step s.tree;
+  pending = put nat_eq s.pending o.client.0 (did s.tree (s.size + 1) step (s.pending o.client.0));
+  changes = put nat_eq s.changes o.brick (s.changes o.brick ++ slot_of step ∷ []);
+}
+
+-- what each kind of line changes
+abbrev pub tells : History → Line → History
+tells s (Volume w) = record s { weights = w }
+tells s (Called k c call) = record s {
+  calls = s.calls + 1;
+  pending = put nat_eq s.pending c.0 (Some (accepted (s.size + 1) k call));
+}
+tells s (Stepped k c b q r) = record s {
+  pending = put nat_eq s.pending c.0 (stepped (s.pending c.0));
+  acts = put nat_eq s.acts b.0 (s.acts b.0 ++ record { client = c; call = k; request = q; reply = r } ∷ []);
+}
+tells s (Changed k step) = with_step s step s.owed
+tells s (Answered k c j a) = record s { pending = put nat_eq s.pending c.0 None }
+tells s (Refused n cause) = s
+
+-- the history with one more line: what the line changes; and every line is counted, and leaves its tree behind
+abbrev pub with_line : History → Line → History
+with_line s line = record (tells s line) {
+  size = s.size + 1;
+  past = put nat_eq s.past (s.size + 1) (tells s line).tree;
+  owed = owed_after line;
+}
+
+-- before the first line: a volume's first run has number 1
+abbrev pub start : History
+start = record {
+  size = 0;
+  run = 1;
+  weights = [];
+  calls = 0;
+  tree = first_tree;
+  past = λ j. first_tree;
+  pending = λ c. None;
+  acts = λ b. [];
+  changes = λ b. [];
+  owed = None;
+}
+
+abbrev pub with_lines : History → List Line → History
+with_lines s [] = s
+with_lines s (line ∷ lines) = with_lines (with_line s line) lines
+
+abbrev pub history_of : List Line → History
+history_of lines = with_lines start lines
+
+-- client c is in its k-th call
+pub record IsIn (s : History) (c : ClientNo) (k : CallNo) (r : PendingCall) : Type 0 where
+  pub runs : s.pending c.0 ≡ Some r
+  pub number : r.number ≡ k
+
+-- the steps of tree lines
+abbrev pub steps_of : List Deed → List TreeStep
+steps_of [] = []
+steps_of (d ∷ ds) = d.step ∷ steps_of ds
+
+abbrev pub all_steps : Deeds → List TreeStep
+all_steps d = d.first.step ∷ steps_of d.more
+
+-- the step is the next that the call is to do: the first that the tree says now, or the one after those that it did
+abbrev pub IsNext : Tree → Call → Option Deeds → TreeStep → Type 0
+IsNext t call None step = (rest : List TreeStep) × ((a : Answer) × (says t call (made_in step) ≡ Do (step ∷ rest) a))
+IsNext t call (Some d) step = (rest : List TreeStep) × ((a : Answer) × (d.said ≡ Do (all_steps d ++ step ∷ rest) a))
+
+-- the gfid that a step makes is of this run, client and call, with some home
+abbrev pub IsOwn : ℕ → ClientNo → CallNo → Gfid → Type 0
+IsOwn run c k g = (home : ℕ) × (home < 2 ^ 16) × (g ≡ made run c k home)
+
+-- the step is of the kind that a request stands for
+abbrev pub IsOf : RequestKind → TreeStep → Type 0
+IsOf Create (AddFile d n f) = Unit {0}
+IsOf q step = ⊥
+
+-- this is what the tree says to the call at point j, where it says to do nothing; or the answer to the very steps that the call did, the first of them at line j
+abbrev pub Tells : History → Call → Option Deeds → ℕ → Answer → Type 0
+Tells s call None j a = (g : Gfid) → answer_of (says (s.past j) call g) ≡ Some a
+Tells s call (Some d) j a = (d.first.line ≡ j) × (d.said ≡ Do (all_steps d) a)
+
+-- the answer has a point within the call at which the tree says so
+pub record HasPoint (s : History) (r : PendingCall) (at : Option ℕ) (a : Answer) : Type 0 where
+  pub point : ℕ
+  pub printed : at ≡ Some point
+  pub after : r.since ≤ point
+  pub before : point ≤ s.size
+  pub tells : Tells s r.call r.deeds point a
+
+-- memory that ran out is free and has no point; the call has then done the first of its steps, or some, or none
+abbrev pub FaultHolds : History → PendingCall → Option ℕ → Errno → Type 0
+FaultHolds s r at Enomem = at ≡ None
+FaultHolds s r at Enoent = HasPoint s r at (Fault Enoent)
+FaultHolds s r at Eexist = HasPoint s r at (Fault Eexist)
+FaultHolds s r at Estale = HasPoint s r at (Fault Estale)
+FaultHolds s r at Einval = ⊥
+FaultHolds s r at Enametoolong = ⊥
+
+abbrev pub Answers : History → PendingCall → Option ℕ → Answer → Type 0
+Answers s r at (File f) = HasPoint s r at (File f)
+Answers s r at (Made f) = HasPoint s r at (Made f)
+Answers s r at (Fault e) = FaultHolds s r at e
+
+-- the line may come next
+abbrev pub Follows : History → Line → Type 0
+-- the volume line is the first
+Follows s (Volume w) = s.size ≡ 0
+-- no line comes between a request and its tree line; calls are numbered, and a client that is busy calls nothing
+Follows s (Called k c call) = (s.owed ≡ None) × (k.0 ≡ s.calls + 1) × (s.pending c.0 ≡ None)
+Follows s (Stepped k c b q r) = (s.owed ≡ None) × ((o : PendingCall) × IsIn s c k o)
+-- a tree line stands directly under the line of its request; its step is the next of the call's steps, can be done, and makes a gfid of this call
+Follows s (Changed k step) = (w : Owed) × (s.owed ≡ Some w) × (w.call ≡ k) × IsOf w.request step × ((o : PendingCall) × IsIn s w.client k o × IsNext s.tree o.call o.deeds step × Fits step s.tree × IsOwn s.run w.client k (made_in step))
+-- an answer is what the tree says
+Follows s (Answered k c at a) = (s.owed ≡ None) × ((o : PendingCall) × IsIn s c k o × Answers s o at a)
+Follows s (Refused n cause) = s.owed ≡ None
+
+abbrev pub LegalFrom : History → List Line → Type 0
+LegalFrom s [] = Unit {0}
+LegalFrom s (line ∷ lines) = Follows s line × LegalFrom (with_line s line) lines
+
+-- each line may come after the lines before it, and no tree line is owed in the end
+pub record Legal (lines : List Line) : Type 0 where
+  pub from : LegalFrom start lines
+  pub whole : (history_of lines).owed ≡ None

@@ -1,0 +1,10 @@
+use Rattle.std.proofs.Common.{arith, ◌≡◌, length}
+use Rattle.dht_world.specs.Bricks.{disk_of, journals_of}
+use Rattle.dht_world.proofs.StartLaws.{at_start}
+use Rattle.dht_world.proofs.events.World.new.Goals as goal
+
+pub returns-clause-at : goal.returns-clause-at
+returns-clause-at g c =
+    let bricks = c.args.bricks.items in
+    let count : length bricks ≡ length c.args.weights = omega (arith, c.requires.counted, c.args.bricks.ok.0) in
+    record { led = at_start g.C.Caller (disk_of g.B.Brick.state bricks) (journals_of g.B.Brick.state bricks) c.args.client c.args.weights c.requires.newborn c.requires.heavy count (omega (arith, c.requires.some, count)) (omega (arith, c.requires.few, count)) c.requires.who c.requires.idle; ready = c.requires.ready }

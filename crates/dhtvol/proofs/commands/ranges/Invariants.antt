@@ -1,6 +1,0 @@
-use Rattle.std.proofs.Common.{◌≡◌, take}
-use Rattle.dhtvol.specs.Commands.{ranges_text}
-use Rattle.dhtvol.proofs.commands.ranges.Given as goal
-
-abbrev pub invariant-loop-brick : goal.invariant-loop-brick
-invariant-loop-brick l = l.text.items ≡ ranges_text 0 (take l.brick l.layout)

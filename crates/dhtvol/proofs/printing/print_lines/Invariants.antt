@@ -1,6 +1,0 @@
-use Rattle.std.proofs.Common.{◌≡◌, ◌++◌, take}
-use Rattle.dht_sched.specs.Transcript.{lines_text}
-use Rattle.dhtvol.proofs.printing.print_lines.Given as goal
-
-abbrev pub invariant-loop-line : goal.invariant-loop-line
-invariant-loop-line l = l.text.items ≡ l.initial.text.items ++ lines_text (take l.line-index l.lines)
