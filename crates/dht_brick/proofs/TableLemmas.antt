@@ -18,7 +18,13 @@ use Rattle.std.proofs.lemmas.List.Sums.{sum_by-cons}
 use Rattle.std.proofs.lemmas.Cmp.{on_total, then_total, nat_cmp_total, nat_list_cmp_total}
 use Rattle.std.proofs.lemmas.Map.Lookups.{exact_unsigned, exact_bytes, exact_pairs}
 use Rattle.dht_types.specs.declared.identifiers.Gfid.{Gfid}
+use Rattle.std.specs.Prelude.{find as find_item, filter}
+use Rattle.std.specs.declared.ops.Bound.TheVariants.{Unbounded}
+use Rattle.std.specs.Range.Bound.{IsForward}
+use Rattle.std.specs.BTreeMap.Range.{range_contains, entries_between}
 use Rattle.dht_brick.specs.Contents.{gfid_cmp, entry_cmp}
+use Rattle.dht_brick.specs.Looks.{is_gfid_above}
+use Rattle.dht_brick.specs.Order.{gfids_from}
 
 -- the orders of gfids and of names are total, and only a key itself ties with it
 pub gfid_total : IsTotalOrder gfid_cmp
@@ -141,3 +147,33 @@ remove-insert {R = R} o exact m k v none =
       | true ↦ λ t. sym (sym (get_tied o m q k (tied (R q k) t)) ∙ none)
       | false ↦ λ t. refl
     ] refl)
+
+-- ---- the keys above one, in a map by gfids
+
+and_true : (b : Bool) → (b && true) ≡ b
+and_true true = refl
+and_true false = refl
+
+pub above_is : (after : Option Gfid) (q : Gfid) → range_contains gfid_cmp (gfids_from after) Unbounded q ≡ is_gfid_above after q
+above_is None q = refl
+above_is (Some g) q = and_true (is_lt (gfid_cmp g q))
+
+pub starts_forward : (after : Option Gfid) (P Q : Gfid → Gfid → Type 0) → IsForward P Q (gfids_from after) Unbounded
+starts_forward None P Q = tt
+starts_forward (Some g) P Q = tt
+
+abbrev pub first_key : {K X : Type 0} → List (K × X) → Option K
+first_key [] = None
+first_key (e ∷ es) = Some e.0
+
+first_cond : {K X : Type 0} (b : Bool) (e : K × X) (es : List (K × X)) → first_key (cond b (e ∷ es) es) ≡ cond b (Some e.0) (first_key es)
+first_cond true e es = refl
+first_cond false e es = refl
+
+find-filter : {K X : Type 0} (p : K → Bool) (es : List (K × X)) → find_item p (map (λ e. e.0) es) ≡ first_key (filter (λ e. p e.0) es)
+find-filter p [] = refl
+find-filter p (e ∷ es) = ap (cond (p e.0) (Some e.0)) (find-filter p es) ∙ sym (first_cond (p e.0) e (filter (λ x. p x.0) es))
+
+-- the least key above one is the first of the range
+pub first_above : {X : Type 0} (after : Option Gfid) (es : List (Gfid × X)) → find_item (is_gfid_above after) (map (λ e. e.0) es) ≡ first_key (entries_between gfid_cmp (gfids_from after) Unbounded es)
+first_above {X} after es = find-filter (is_gfid_above after) es ∙ (λ i. first_key (filter (λ (e : Gfid × X). sym (above_is after e.0) i) es))

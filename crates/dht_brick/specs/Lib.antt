@@ -1,6 +1,7 @@
 pub mod Contents
 pub mod Parts
 pub mod Links
+pub mod Order
 pub mod Outcome
 pub mod Looks
 pub mod NameRows

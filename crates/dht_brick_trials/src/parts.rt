@@ -14,7 +14,7 @@ use dht_brick::replies::Reply;
 use dht_brick::requests::Request;
 use dht_brick::slots::Slots;
 use dht_files::Files;
-use dht_names::tables::Tables;
+use dht_names::Tables;
 use dht_types::identifiers::Gfid;
 use dht_types::names::EntryKey;
 use dht_types::saved::Saved;

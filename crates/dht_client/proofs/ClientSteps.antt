@@ -12,17 +12,17 @@ use Rattle.dht_xattr.specs.declared.range.Range.{Range}
 use Rattle.dht_brick.specs.declared.requests.NameRequest.TheVariants.{Look}
 use Rattle.dht_brick.specs.declared.requests.Request.TheVariants.{OnNames}
 use Rattle.dht_brick.specs.declared.replies.Reply.{Reply}
-use Rattle.dht_section.specs.Scene.{Scene, Moved}
+use Rattle.dht_section.specs.Scene.{Scene, Guarantee}
 use Rattle.dht_section.specs.Begins.{Begins}
 use Rattle.dht_types.specs.Calls.{IsInRoot}
 use Rattle.dht_section.specs.Section.{IsFresh, section_asks}
 use Rattle.dht_section.specs.declared.section.Location.{Location}
 use Rattle.dht_section.specs.declared.section.Section.TheVariants.{LockingDirectory}
-use Rattle.dht_client.proofs.LookupSteps.{aimed_knows, aimed_left, aimed_locks, aimed_fed}
+use Rattle.dht_client.proofs.LookupSteps.{aimed_knows, aimed_variant, aimed_locks, aimed_fed}
 use Rattle.dht_client.specs.Layout.{holder_in}
-use Rattle.dht_client.specs.Lookup.{IsLookup, LookupKnows, aimed_at, first_lookup, lookup_asks, lookup_left, lookup_locks, lookup_starved}
-use Rattle.dht_client.specs.Program.{program_asks, program_left, program_locks, program_starved, ProgramKnows}
-use Rattle.dht_client.specs.Client.{first_program, first_lock, first_look, first_ask, most_steps, place_at, asked, still_left, RunningKnows, client_asks, client_left, ClientKnows}
+use Rattle.dht_client.specs.Lookup.{IsLookup, LookupKnows, aimed_at, first_lookup, lookup_asks, lookup_variant, lookup_locks, lookup_starved}
+use Rattle.dht_client.specs.Program.{program_asks, program_variant, program_locks, program_starved, ProgramKnows}
+use Rattle.dht_client.specs.Client.{first_program, first_lock, first_look, first_ask, most_steps, place_at, asked, still_left, RunningKnows, client_asks, client_variant, ClientKnows}
 use Rattle.dht_client.specs.declared.lookup.LookupCall.TheVariants.{LookingAtHolder, Securing}
 use Rattle.dht_client.specs.declared.program.Program.{Program}
 use Rattle.dht_client.specs.declared.calling.Client.{Client}
@@ -43,16 +43,16 @@ first_knows c ws run k (Create d n) s small few e b = record {
   section = fresh_first c.number ws run k (Create d n) d n s e b;
 }
 
-lookup_steps : (known : Option (List (Option Range))) (l : Location) (n : ℕ) (d : Gfid) (m : List ℕ) → l.bricks ≡ n → lookup_left (first_lookup l known) ≤ most_steps (is_some known) n (Lookup d m)
+lookup_steps : (known : Option (List (Option Range))) (l : Location) (n : ℕ) (d : Gfid) (m : List ℕ) → l.bricks ≡ n → lookup_variant (first_lookup l known) ≤ most_steps (is_some known) n (Lookup d m)
 lookup_steps None l n d m e = omega arith
-lookup_steps (Some ranges) l n d m e = let a = aimed_left l ranges in omega arith
+lookup_steps (Some ranges) l n d m e = let a = aimed_variant l ranges in omega arith
 
 create_steps : (known : Bool) (n : ℕ) (d : Gfid) (m : List ℕ) → most_steps known n (Create d m) ≡ n + 5
 create_steps true n d m = refl
 create_steps false n d m = refl
 
-pub first_steps : (c : Client) (ws : List ℕ) (run : ℕ) (k : CallNo) (what : Call) → program_left (first_program c ws run k what) ≤ most_steps (is_some c.layout) (length ws) what
-unfolding program_left
+pub first_steps : (c : Client) (ws : List ℕ) (run : ℕ) (k : CallNo) (what : Call) → program_variant (first_program c ws run k what) ≤ most_steps (is_some c.layout) (length ws) what
+unfolding program_variant
 first_steps c ws run k (Lookup d n) = lookup_steps c.layout (place_at d n ws) (length ws) d n refl
 first_steps c ws run k (Create d n) = let e = create_steps (is_some c.layout) (length ws) d n in omega arith
 
@@ -104,10 +104,10 @@ first_starved c ws run k (Create d n) = refl
 -- the program's own step
 pub record ProgramRuns (p : Program) (s : Scene) (r : Reply) (t : Scene) : Type 0 where
   pub knows : ProgramKnows p s
-  pub moved : Moved s (program_asks p) r t
+  pub moved : Guarantee s (program_asks p) r t
 
-pub program_runs : (c : Client) (p : Program) (r : Reply) (s t : Scene) → c.pending ≡ Some p → ClientKnows c s → Moved s (client_asks c) r t → ProgramRuns p s r t
-program_runs c p r s t e h mv = record { knows = subst (λ o. RunningKnows o s) e h; moved = subst (λ o. Moved s (asked o) r t) e mv }
+pub program_runs : (c : Client) (p : Program) (r : Reply) (s t : Scene) → c.pending ≡ Some p → ClientKnows c s → Guarantee s (client_asks c) r t → ProgramRuns p s r t
+program_runs c p r s t e h mv = record { knows = subst (λ o. RunningKnows o s) e h; moved = subst (λ o. Guarantee s (asked o) r t) e mv }
 
-pub left_before : (c : Client) (p n : Program) → c.pending ≡ Some p → program_left n < program_left p → program_left n < client_left c
-left_before c p n e h = subst (λ o. program_left n < still_left o) (sym e) h
+pub variant_before : (c : Client) (p n : Program) → c.pending ≡ Some p → program_variant n < program_variant p → program_variant n < client_variant c
+variant_before c p n e h = subst (λ o. program_variant n < still_left o) (sym e) h

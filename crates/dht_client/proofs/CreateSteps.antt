@@ -1,10 +1,8 @@
 -- The steps of a create: within its section, the making of the file, and within its closing.
-use Rattle.std.proofs.Common.{◌≡◌, ◌<◌, ◌≤◌, ◌+◌, ◌*◌, ◌/◌, ◌%◌, ◌^◌, ℕ, List, refl, sym, ◌∙◌, ap, subst, arith, true, false}
+use Rattle.std.proofs.Common.{◌≡◌, ◌<◌, ◌≤◌, ◌+◌, ◌^◌, ℕ, refl, sym, ◌∙◌, ap, subst, arith, true, false}
 use Rattle.std.specs.Prelude.{Option, Some, None, is_none, unwrap_or, option_map, ◌&&◌}
-use Rattle.std.proofs.lemmas.Nat.{div-mul-add, mod-mul-add}
-use Rattle.dht_types.specs.Gfid.{made, call_of}
+use Rattle.dht_types.specs.Gfid.{made}
 use Rattle.dht_types.specs.History.{Deeds, Tells, deeds_after}
-use Rattle.dht_types.specs.declared.identifiers.Gfid.{Gfid}
 use Rattle.dht_types.specs.declared.identifiers.ClientNo.{ClientNo}
 use Rattle.dht_types.specs.declared.identifiers.CallNo.{CallNo}
 use Rattle.dht_types.specs.declared.calls.Call.TheVariants.{Create}
@@ -25,10 +23,12 @@ use Rattle.dht_brick.specs.declared.replies.Given.TheVariants.{Nothing}
 use Rattle.dht_brick.specs.declared.replies.Reply.{Reply}
 use Rattle.dht_brick.specs.declared.replies.Reply.TheVariants.{Ok as Carried}
 use Rattle.dht_section.specs.Replies.{is_no_memory}
-use Rattle.dht_section.specs.Scene.{Disk, file_at, FileTruth, Scene, Sound, Moved, Earned, step_of, deeds_by}
-use Rattle.dht_section.specs.Section.{HasPlace, section_asks, section_left, section_location, SectionKnows}
-use Rattle.dht_section.specs.Closing.{closing_asks, closing_left, ClosingKnows}
-use Rattle.dht_section.proofs.KeptLaws.{bare_by}
+use Rattle.dht_section.specs.Disk.{file_at}
+use Rattle.dht_section.specs.Invariant.{ByRecord}
+use Rattle.dht_section.specs.Scene.{Scene, Sound, Guarantee, MayAnswer, step_of, deeds_by}
+use Rattle.dht_section.specs.Section.{HasPlace, section_asks, section_variant, section_location, SectionKnows}
+use Rattle.dht_section.specs.Closing.{closing_asks, closing_variant, ClosingKnows}
+use Rattle.dht_section.proofs.EarlyLaws.{bare_by}
 use Rattle.dht_section.proofs.SceneLaws.{row_reply}
 use Rattle.dht_section.proofs.SectionSteps.{in_dir_there, root_there, place_moved, section_goes_on, closing_short}
 use Rattle.dht_section.specs.declared.section.Location.{Location}
@@ -43,9 +43,9 @@ use Rattle.dht_section.specs.declared.section.SectionOutcome.TheVariants.{Held a
 use Rattle.dht_section.specs.declared.section.Place.{Place}
 use Rattle.dht_section.specs.declared.section.Held.{Held}
 use Rattle.dht_client.specs.LayoutLaws.{has_holder}
-use Rattle.dht_client.specs.Create.{create_asks, create_left, new_file, CreateKnows, ComesOf, Makes, SecuresCreate, IsFree}
+use Rattle.dht_client.specs.Create.{create_asks, create_variant, new_file, CreateKnows, ComesOf, Makes, SecuresCreate, IsFree}
 use Rattle.dht_client.specs.declared.create.Origin.{Origin}
-use Rattle.dht_client.specs.CreateLaws.{free_says, file_free}
+use Rattle.dht_client.specs.CreateLaws.{free_says, file_unused}
 use Rattle.dht_client.specs.declared.create.NewFile.{NewFile}
 use Rattle.dht_client.specs.declared.create.CreateCall.{CreateCall}
 use Rattle.dht_client.specs.declared.create.CreateCall.TheVariants.{Securing, Creating, Ending}
@@ -53,22 +53,13 @@ use Rattle.dht_client.specs.declared.create.CreateCall.TheVariants.{Securing, Cr
 pub same_made : (n k : ℕ) (c d : ClientNo) (x y : CallNo) (h : ℕ) → k ≡ n → d ≡ c → y ≡ x → made n c x h ≡ made k d y h
 same_made n k c d x y h e f g = ap (λ (i : ℕ). made i c x h) (sym e) ∙ (ap (λ (i : ClientNo). made k i x h) (sym f) ∙ ap (λ (i : CallNo). made k d i h) (sym g))
 
--- the call's number stands in the gfid
-call_made : (run : ℕ) (c : ClientNo) (k : CallNo) (h : ℕ) → k.0 < 2 ^ 64 → h < 65536 → call_of (made run c k h) ≡ k.0
-call_made run c k h small few =
-    let high : ℕ = run * 65536 + c.0 in
-    let e : (made run c k h).0 ≡ (high * 18446744073709551616 + k.0) * 65536 + h = omega arith in
-    ap (λ x. x / 65536 % 18446744073709551616) e
-    ∙ (ap (λ x. x % 18446744073709551616) (div-mul-add (high * 18446744073709551616 + k.0) 65536 h few)
-    ∙ mod-mul-add high 18446744073709551616 k.0 small)
-
 -- the file of the call's origin is the call's own
 makes_own : (o : Origin) (b : ℕ) (l : Location) (s : Scene) → Sound s → b < s.disk.count → ComesOf o l s → Makes (new_file o b) l s
 makes_own o b l s sound there h = record {
   call = h.call;
   there = there;
   file = same_made o.run s.history.run o.client s.who o.call s.mine.number b (sym h.run) (sym h.client) (sym h.number);
-  numbered = call_made o.run o.client o.call b h.small (let few = sound.kept.few in omega arith) ∙ ap (λ (i : CallNo). i.0) h.number;
+  small = subst (λ (i : CallNo). i.0 < 2 ^ 64) h.number h.small;
 }
 
 -- under both locks, where no brick has the name, the file may go to the name's holder
@@ -89,7 +80,7 @@ pub secured_free : (o : Origin) (out : SectionOutcome) (h : Held) (holder : Opti
 secured_free o out h holder x s e none at new sound comes k = held_free o h x s none (new ∙ ap (λ i. new_file o (unwrap_or i 0)) at) sound (rw e at comes) (rw e at k)
 
 -- the call is still the create of this origin
-comes_moved : (o : Origin) (l k : Location) (m : Section) (s t : Scene) (r : Reply) → k ≡ l → ComesOf o l s → Moved s (section_asks m) r t → ComesOf o k t
+comes_moved : (o : Origin) (l k : Location) (m : Section) (s t : Scene) (r : Reply) → k ≡ l → ComesOf o l s → Guarantee s (section_asks m) r t → ComesOf o k t
 comes_moved o l k m s t r e h mv = record {
   call = mv.call ∙ (h.call ∙ ap (λ (i : Location). Create i.directory i.name) (sym e));
   run = h.run ∙ sym mv.run;
@@ -102,40 +93,43 @@ comes_moved o l k m s t r e h mv = record {
 pub record SectionRuns (o : Origin) (m : Section) (s : Scene) (r : Reply) (t : Scene) : Type 0 where
   pub comes : ComesOf o (section_location m) s
   pub knows : SectionKnows m s
-  pub moved : Moved s (section_asks m) r t
+  pub moved : Guarantee s (section_asks m) r t
 
-pub section_runs : (c : CreateCall) (o : Origin) (m : Section) (r : Reply) (s t : Scene) → c ≡ Securing o m → CreateKnows c s → Moved s (create_asks c) r t → SectionRuns o m s r t
+pub section_runs : (c : CreateCall) (o : Origin) (m : Section) (r : Reply) (s t : Scene) → c ≡ Securing o m → CreateKnows c s → Guarantee s (create_asks c) r t → SectionRuns o m s r t
 section_runs c o m r s t e h mv = let k : SecuresCreate o m s = rw e at h in record { comes = k.comes; knows = k.section; moved = rw e at mv }
 
 pub comes_at : (o : Origin) (l : Location) (m : Section) (r : Reply) (s t : Scene) → SectionRuns o m s r t → l ≡ section_location m → ComesOf o l t
 comes_at o l m r s t q e = comes_moved o (section_location m) l m s t r e q.comes q.moved
 
-pub take_section : (c : CreateCall) (o : Origin) (m n : Section) (r : Reply) (s t : Scene) → c ≡ Securing o m → SectionRuns o m s r t → section_location n ≡ section_location m → SectionKnows n t × (section_left n < section_left m) → SecuresCreate o n t × (section_left n + 3 < create_left c)
+pub take_section : (c : CreateCall) (o : Origin) (m n : Section) (r : Reply) (s t : Scene) → c ≡ Securing o m → SectionRuns o m s r t → section_location n ≡ section_location m → SectionKnows n t × (section_variant n < section_variant m) → SecuresCreate o n t × (section_variant n + 3 < create_variant c)
 take_section c o m n r s t e q l h = (record { comes = comes_at o (section_location n) m r s t q l; section = h.0 }, let k = h.1 in rw e (omega arith))
 
-pub take_outcome : (c d : CreateCall) (x : Origin) (m : Section) (r : Reply) (s t : Scene) → c ≡ Securing x m → SectionRuns x m s r t → create_left d ≤ 3 → CreateKnows d t → CreateKnows d t × (create_left d < create_left c)
+pub take_outcome : (c d : CreateCall) (x : Origin) (m : Section) (r : Reply) (s t : Scene) → c ≡ Securing x m → SectionRuns x m s r t → create_variant d ≤ 3 → CreateKnows d t → CreateKnows d t × (create_variant d < create_variant c)
 take_outcome c d x m r s t e q l h = (h, let a = section_goes_on m s q.knows in rw e (omega arith))
 
 -- the holder has neither the name nor the file, so the create is carried out
 free_if : (p : Slot) (o : Option Record) → p ≡ bare → o ≡ None → (is_bare p && is_none o) ≡ true
 free_if p o e k = ap (λ (x : Slot). is_bare x && is_none o) e ∙ ap (λ (y : Option Record). is_bare bare && is_none y) k
 
-no_file : (d : Disk) (f : Gfid) (o : Option (List ℕ)) (b : ℕ) → FileTruth d f o → o ≡ None → b < d.count → file_at d b f ≡ None
-no_file d f None b h e l = h b l
-no_file d f (Some bytes) b h e l = absurd (let q : Some bytes ≡ None = e in cc)
+no_file : (x : NewFile) (l : Location) (s : Scene) → Sound s → IsFree x l s → file_at s.disk x.holder.0 x.file ≡ None
+no_file x l s sound h = by (file_at s.disk x.holder.0 x.file) refl
+  where
+    by : (o : Option Record) → file_at s.disk x.holder.0 x.file ≡ o → o ≡ None
+    by None e = refl
+    by (Some r) e = absurd (file_unused x l s sound h (ByRecord x.holder.0 r h.makes.there e))
 
-carried : (x : NewFile) (l : Location) (r : Reply) (s t : Scene) → Sound s → is_no_memory r ≡ false → IsFree x l s → Moved s (create_asks (Creating x l)) r t → r ≡ Carried Nothing
+carried : (x : NewFile) (l : Location) (r : Reply) (s t : Scene) → Sound s → is_no_memory r ≡ false → IsFree x l s → Guarantee s (create_asks (Creating x l)) r t → r ≡ Carried Nothing
 carried x l r s t sound z h m =
     let there = h.makes.there in
     let c : Contents = s.disk.brick x.holder.0 in
     let p : Slot = slot c.store (entry_at l) in
-    let empty : p ≡ bare = bare_by p (sound.kept.settled (entry_at l) x.holder.0 there) (h.empty x.holder.0 there) in
-    let free : (is_bare p && is_none (file c.store x.file)) ≡ true = free_if p (file c.store x.file) empty (no_file s.disk x.file (s.history.tree.bytes x.file) x.holder.0 (sound.kept.stands.bytes x.file) (file_free x l s sound h) there) in
+    let empty : p ≡ bare = bare_by p (sound.early.plain (entry_at l) x.holder.0 there) (h.empty x.holder.0 there) in
+    let free : (is_bare p && is_none (file c.store x.file)) ≡ true = free_if p (file c.store x.file) empty (no_file x l s sound h) in
     row_reply s t _ r m z
     ∙ (ap (λ o. reply_in (within (with_store c) o)) (in_dir_there (dir c.store l.directory) _ (root_there s l.directory x.holder.0 sound h.fresh.place.root there))
     ∙ ap (λ b. reply_in (within (with_store c) (on_slot (Make l.directory l.name x.file) c.store (entry_at l) (when b (with_main p (File x.file None)))))) free)
 
-made_step : (x : NewFile) (l : Location) (r : Reply) (at : ℕ) (s t : Scene) → Sound s → Sound t → is_no_memory r ≡ false → at ≡ t.history.size → IsFree x l s → Moved s (create_asks (Creating x l)) r t → Earned (record { answer = Made x.file; at = Some at }) t
+made_step : (x : NewFile) (l : Location) (r : Reply) (at : ℕ) (s t : Scene) → Sound s → Sound t → is_no_memory r ≡ false → at ≡ t.history.size → IsFree x l s → Guarantee s (create_asks (Creating x l)) r t → MayAnswer (record { answer = Made x.file; at = Some at }) t
 made_step x l r at s t sound after z e h m =
     let begun = after.begun in
     let step : TreeStep = AddFile l.directory l.name x.file in
@@ -152,22 +146,22 @@ made_step x l r at s t sound after z e h m =
       tells = subst (λ (d : Option Deeds). Tells t.history t.mine.call d at (Made x.file)) (sym deeds) (sym e, said);
     }
 
-pub take_made : (c : CreateCall) (x : NewFile) (l : Location) (r : Reply) (at : ℕ) (s t : Scene) → c ≡ Creating x l → is_no_memory r ≡ false → Sound s → Sound t → at ≡ t.history.size → CreateKnows c s → Moved s (create_asks c) r t → HasPlace l t × Earned (record { answer = Made x.file; at = Some at }) t
+pub take_made : (c : CreateCall) (x : NewFile) (l : Location) (r : Reply) (at : ℕ) (s t : Scene) → c ≡ Creating x l → is_no_memory r ≡ false → Sound s → Sound t → at ≡ t.history.size → CreateKnows c s → Guarantee s (create_asks c) r t → HasPlace l t × MayAnswer (record { answer = Made x.file; at = Some at }) t
 take_made c x l r at s t e z sound after ea h mv =
     let k : IsFree x l s = rw e at h in
-    let v : Moved s (create_asks (Creating x l)) r t = rw e at mv in
+    let v : Guarantee s (create_asks (Creating x l)) r t = rw e at mv in
     (place_moved l s t _ r k.fresh.place v, made_step x l r at s t sound after z ea k v)
 
-pub take_end : (c : CreateCall) (x : NewFile) (l : Location) (d : Closing) (t : Scene) → c ≡ Creating x l → ClosingKnows d t → ClosingKnows d t × (closing_left d < create_left c)
+pub take_end : (c : CreateCall) (x : NewFile) (l : Location) (d : Closing) (t : Scene) → c ≡ Creating x l → ClosingKnows d t → ClosingKnows d t × (closing_variant d < create_variant c)
 take_end c x l d t e h = (h, let b = closing_short d in rw e (omega arith))
 
 -- the closing's own step
 pub record ClosingRuns (d : Closing) (s : Scene) (r : Reply) (t : Scene) : Type 0 where
   pub knows : ClosingKnows d s
-  pub moved : Moved s (closing_asks d) r t
+  pub moved : Guarantee s (closing_asks d) r t
 
-pub closing_runs : (c : CreateCall) (d : Closing) (r : Reply) (s t : Scene) → c ≡ Ending d → CreateKnows c s → Moved s (create_asks c) r t → ClosingRuns d s r t
+pub closing_runs : (c : CreateCall) (d : Closing) (r : Reply) (s t : Scene) → c ≡ Ending d → CreateKnows c s → Guarantee s (create_asks c) r t → ClosingRuns d s r t
 closing_runs c d r s t e h mv = record { knows = rw e at h; moved = rw e at mv }
 
-pub take_closing : (c : CreateCall) (d n : Closing) (t : Scene) → c ≡ Ending d → ClosingKnows n t × (closing_left n < closing_left d) → ClosingKnows n t × (closing_left n < create_left c)
+pub take_closing : (c : CreateCall) (d n : Closing) (t : Scene) → c ≡ Ending d → ClosingKnows n t × (closing_variant n < closing_variant d) → ClosingKnows n t × (closing_variant n < create_variant c)
 take_closing c d n t e h = (h.0, rw e h.1)

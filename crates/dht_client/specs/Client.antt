@@ -16,7 +16,7 @@ use Rattle.dht_section.specs.declared.machine.Ask.{Ask}
 use Rattle.dht_section.specs.Scene.{Scene}
 use Rattle.dht_xattr.specs.declared.range.Range.{Range}
 use Rattle.dht_client.specs.Layout.{holder_in}
-use Rattle.dht_client.specs.Program.{program_asks, program_left, program_locks, program_starved, program_taught, ProgramKnows}
+use Rattle.dht_client.specs.Program.{program_asks, program_variant, program_locks, program_starved, program_taught, ProgramKnows}
 use Rattle.dht_section.specs.declared.section.Location.{Location}
 use Rattle.dht_client.specs.Lookup.{first_lookup}
 use Rattle.dht_client.specs.Create.{first_create}
@@ -44,11 +44,11 @@ client_asks c = asked c.pending
 
 abbrev pub still_left : Option Program → ℕ
 still_left None = 0
-still_left (Some m) = program_left m
+still_left (Some m) = program_variant m
 
 -- how many requests its call still sends at most
-abbrev pub client_left : Client → ℕ
-client_left c = still_left c.pending
+abbrev pub client_variant : Client → ℕ
+client_variant c = still_left c.pending
 
 abbrev pub locks_of : Option Program → List Key
 locks_of None = []

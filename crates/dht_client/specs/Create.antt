@@ -1,6 +1,6 @@
 -- What a create asks and knows.
 use Rattle.std.specs.Prelude.{ℕ, ◌+◌, ◌<◌, ◌^◌, ◌≡◌, Bool, false, Option, Some, None, List}
-use Rattle.dht_types.specs.Gfid.{made, call_of}
+use Rattle.dht_types.specs.Gfid.{made}
 use Rattle.dht_types.specs.declared.calls.Call.TheVariants.{Create}
 use Rattle.dht_types.specs.declared.locks.Key.{Key}
 use Rattle.dht_brick.specs.declared.requests.NameRequest.TheVariants.{Create as Make}
@@ -8,9 +8,10 @@ use Rattle.dht_brick.specs.declared.requests.Request.TheVariants.{OnNames}
 use Rattle.dht_brick.specs.declared.replies.Reply.{Reply}
 use Rattle.dht_section.specs.declared.machine.Ask.{Ask}
 use Rattle.dht_xattr.specs.declared.range.Range.{Range}
-use Rattle.dht_section.specs.Scene.{Scene, name_at, holder_of}
-use Rattle.dht_section.specs.Section.{entry_at, IsFresh, Locked, section_asks, section_location, section_left, section_locks, both_locks, section_taught, SectionKnows}
-use Rattle.dht_section.specs.Closing.{closing_asks, closing_left, closing_locks, closing_finish, ClosingKnows}
+use Rattle.dht_section.specs.Disk.{name_at, holder_of}
+use Rattle.dht_section.specs.Scene.{Scene}
+use Rattle.dht_section.specs.Section.{entry_at, IsFresh, Locked, section_asks, section_location, section_variant, section_locks, both_locks, section_taught, SectionKnows}
+use Rattle.dht_section.specs.Closing.{closing_asks, closing_variant, closing_locks, closing_finish, ClosingKnows}
 use Rattle.dht_section.specs.declared.section.Location.{Location}
 use Rattle.dht_section.specs.declared.section.Section.{Section}
 use Rattle.dht_section.specs.declared.section.Section.TheVariants.{LockingDirectory}
@@ -26,10 +27,10 @@ create_asks (Creating x l) = record { brick = x.holder; request = OnNames (Make 
 create_asks (Ending c) = closing_asks c
 
 -- how many requests it still sends at most
-abbrev pub create_left : CreateCall → ℕ
-create_left (Securing o m) = section_left m + 3
-create_left (Creating x l) = 3
-create_left (Ending c) = closing_left c
+abbrev pub create_variant : CreateCall → ℕ
+create_variant (Securing o m) = section_variant m + 3
+create_variant (Creating x l) = 3
+create_variant (Ending c) = closing_variant c
 
 -- the layout of the directory, where every brick has shown its range by this reply
 abbrev pub create_taught : CreateCall → Reply → Option (List (Option Range))
@@ -73,7 +74,7 @@ pub record Makes (x : NewFile) (l : Location) (s : Scene) : Type 0 where
   pub call : s.mine.call ≡ Create l.directory l.name
   pub there : x.holder.0 < s.disk.count
   pub file : x.file ≡ made s.history.run s.who s.mine.number x.holder.0
-  pub numbered : call_of x.file ≡ s.mine.number.0
+  pub small : s.mine.number.0 < 2 ^ 64
 
 -- both locks are held, no brick has the name, and the file goes to the name's holder
 pub record IsFree (x : NewFile) (l : Location) (s : Scene) : Type 0 where

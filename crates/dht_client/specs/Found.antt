@@ -1,5 +1,5 @@
 -- A name that is found at its holder.
-use Rattle.std.specs.Prelude.{ℕ, ◌≡◌, Some, Option, List, [], ◌∷◌}
+use Rattle.std.specs.Prelude.{ℕ, ◌≡◌, Some, List, [], ◌∷◌}
 use Rattle.dht_types.specs.declared.identifiers.Gfid.{Gfid}
 use Rattle.dht_types.specs.declared.locks.Key.{Key}
 use Rattle.dht_types.specs.declared.calls.Answer.TheVariants.{File}

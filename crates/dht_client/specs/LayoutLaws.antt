@@ -7,7 +7,8 @@ use Rattle.dht_hash.specs.DaviesMeyer.{dm}
 use Rattle.dht_hash.proofs.DaviesMeyerLaws.{dm_below}
 use Rattle.dht_xattr.specs.Layout.{holder}
 use Rattle.dht_xattr.proofs.PlanLaws.{planned_holder}
-use Rattle.dht_section.specs.Scene.{Scene, Sound, layout_of, holder_of}
+use Rattle.dht_section.specs.Disk.{layout_of, holder_of}
+use Rattle.dht_section.specs.Scene.{Scene, Sound}
 
 -- a name of the root has a holder, which is a brick of the volume
 pub record HasHolder (s : Scene) (e : Entry) : Type 0 where
@@ -23,5 +24,5 @@ has_holder s d n sound e =
     record {
       brick = w.0;
       there = omega arith;
-      holds = ap (λ g. holder (layout_of s.disk g) (dm n)) e ∙ (ap (λ ranges. holder ranges (dm n)) sound.kept.planned ∙ w.2);
+      holds = ap (λ g. holder (layout_of s.disk g) (dm n)) e ∙ (ap (λ ranges. holder ranges (dm n)) sound.early.planned ∙ w.2);
     }

@@ -13,8 +13,8 @@ use Rattle.dht_section.specs.declared.machine.Ask.{Ask}
 use Rattle.dht_xattr.specs.declared.range.Range.{Range}
 use Rattle.dht_section.specs.Replies.{is_no_memory, range_shown}
 use Rattle.dht_section.specs.Scene.{Scene}
-use Rattle.dht_section.specs.Section.{IsFresh, lengthened, section_asks, section_location, section_left, section_locks, section_taught, SectionKnows}
-use Rattle.dht_section.specs.Closing.{closing_asks, closing_left, closing_locks, closing_finish, ClosingKnows}
+use Rattle.dht_section.specs.Section.{IsFresh, lengthened, section_asks, section_location, section_variant, section_locks, section_taught, SectionKnows}
+use Rattle.dht_section.specs.Closing.{closing_asks, closing_variant, closing_locks, closing_finish, ClosingKnows}
 use Rattle.dht_section.specs.declared.section.Location.{Location}
 use Rattle.dht_section.specs.declared.section.Place.{Place}
 use Rattle.dht_section.specs.declared.section.Section.{Section}
@@ -37,11 +37,11 @@ lookup_asks (Securing m) = section_asks m
 lookup_asks (Ending c) = closing_asks c
 
 -- how many requests it still sends at most
-abbrev pub lookup_left : LookupCall → ℕ
-lookup_left (Surveying l b ranges) = (l.bricks - b.0) + l.bricks + 5
-lookup_left (LookingAtHolder x) = x.location.bricks + 5
-lookup_left (Securing m) = section_left m + 2
-lookup_left (Ending c) = closing_left c
+abbrev pub lookup_variant : LookupCall → ℕ
+lookup_variant (Surveying l b ranges) = (l.bricks - b.0) + l.bricks + 5
+lookup_variant (LookingAtHolder x) = x.location.bricks + 5
+lookup_variant (Securing m) = section_variant m + 2
+lookup_variant (Ending c) = closing_variant c
 
 -- the layout of the directory, where every brick has shown its range by this reply
 abbrev pub lookup_taught : LookupCall → Reply → Option (List (Option Range))

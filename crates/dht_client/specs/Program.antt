@@ -5,8 +5,8 @@ use Rattle.dht_brick.specs.declared.replies.Reply.{Reply}
 use Rattle.dht_section.specs.declared.machine.Ask.{Ask}
 use Rattle.dht_xattr.specs.declared.range.Range.{Range}
 use Rattle.dht_section.specs.Scene.{Scene}
-use Rattle.dht_client.specs.Lookup.{lookup_asks, lookup_left, lookup_taught, lookup_locks, lookup_starved, LookupKnows}
-use Rattle.dht_client.specs.Create.{create_asks, create_left, create_taught, create_locks, create_starved, CreateKnows}
+use Rattle.dht_client.specs.Lookup.{lookup_asks, lookup_variant, lookup_taught, lookup_locks, lookup_starved, LookupKnows}
+use Rattle.dht_client.specs.Create.{create_asks, create_variant, create_taught, create_locks, create_starved, CreateKnows}
 use Rattle.dht_client.specs.declared.program.Program.{Program}
 use Rattle.dht_client.specs.declared.program.Program.TheVariants.{LookingUp, Creating}
 
@@ -14,9 +14,9 @@ unfoldable pub program_asks : Program → Ask
 program_asks (LookingUp m) = lookup_asks m
 program_asks (Creating m) = create_asks m
 
-unfoldable pub program_left : Program → ℕ
-program_left (LookingUp m) = lookup_left m
-program_left (Creating m) = create_left m
+unfoldable pub program_variant : Program → ℕ
+program_variant (LookingUp m) = lookup_variant m
+program_variant (Creating m) = create_variant m
 
 unfoldable pub program_locks : Program → List Key
 program_locks (LookingUp m) = lookup_locks m

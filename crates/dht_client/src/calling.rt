@@ -10,7 +10,7 @@ ghost use Rattle.dht_section.specs.Begins.{Begins};
 ghost use Rattle.dht_types.specs.Calls.{IsInRoot};
 ghost use Rattle.dht_section.specs.Section.{LocksBy};
 ghost use Rattle.dht_client.specs.Memory.{CallNotesMemory};
-ghost use Rattle.dht_client.specs.Client.{client_asks, client_is_busy, client_left, client_locks, client_number, client_starved, client_layout, client_taught, first_ask, first_program, most_steps, ClientKnows};
+ghost use Rattle.dht_client.specs.Client.{client_asks, client_is_busy, client_variant, client_locks, client_number, client_starved, client_layout, client_taught, first_ask, first_program, most_steps, ClientKnows};
 ghost use Rattle.dht_client.specs.Layout.{learned};
 ghost use Rattle.dht_client.specs.ClientLaws.{client_goes_on, client_permitted, client_stable};
 
@@ -93,7 +93,7 @@ impl Caller for Client {
 
     ghost knows = { ClientKnows };
 
-    ghost left = { client_left };
+    ghost variant = { client_variant };
 
     fn is_idle(&self) -> bool {
         self.pending.is_none()
@@ -108,11 +108,11 @@ impl Caller for Client {
         ensures knows { (s : Scene)
             → Begins (client_number self.old) weights.now run call what.now s
             → ClientKnows self.new s }
-        ensures left { client_left self.new ≤ cost (length weights.now) what.now }
+        ensures variant { client_variant self.new ≤ cost (length weights.now) what.now }
         // a client that knows the layout looks at the holder first
         ensures asks { client_asks self.new
             ≡ first_ask (client_layout self.old) weights.now what.now }
-        ensures steps { client_left self.new
+        ensures steps { client_variant self.new
             ≤ most_steps (is_some (client_layout self.old)) (length weights.now) what.now }
         ensures layout { client_layout self.new ≡ client_layout self.old }
         ensures locks { client_locks self.new ≡ [] }
@@ -131,7 +131,7 @@ impl Caller for Client {
     fn take(&mut self, reply: Reply, at: u64) -> Option<Finish>
         requires { client_is_busy self.old ≡ true }
         ensures number { client_number self.new ≡ client_number self.old }
-        ensures moves { CallMoves client_is_busy client_asks ClientKnows client_left
+        ensures moves { CallMoves client_is_busy client_asks ClientKnows client_variant
             self.old self.new reply at result }
         ensures busy { client_is_busy self.new ≡ is_none result }
         // it learns the layout of the root when every brick has shown its range

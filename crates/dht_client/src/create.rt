@@ -1,12 +1,12 @@
 //! Create: under the locks of its name, a call that makes a file where no brick has one.
 
 ghost use Rattle.std.specs.Prelude.{◌≡◌, ◌<◌, ◌≤◌, ◌||◌, ℕ, false, [], None, option_map, unwrap_or};
-ghost use Rattle.dht_section.specs.Scene.{Scene, Sound, Earned};
+ghost use Rattle.dht_section.specs.Scene.{Scene, Sound, MayAnswer};
 ghost use Rattle.dht_section.specs.Turns.{Moves};
 ghost use Rattle.dht_section.specs.Section.{LocksFollow, OutcomeFact, outcome_location, outcome_locks, is_stopped};
 ghost use Rattle.dht_section.specs.Closing.{ClosingKnows, closing_finish, closing_locks};
 ghost use Rattle.dht_client.specs.Memory.{NotesMemory};
-ghost use Rattle.dht_client.specs.Create.{ComesOf, create_asks, create_left, create_locks, create_starved, create_taught, first_create, new_file, CreateKnows};
+ghost use Rattle.dht_client.specs.Create.{ComesOf, create_asks, create_variant, create_locks, create_starved, create_taught, first_create, new_file, CreateKnows};
 ghost use Rattle.dht_client.specs.CreateLaws.{create_permitted, create_stable};
 
 use dht_brick::replies::Reply;
@@ -65,7 +65,7 @@ impl Origin {
 fn secured(origin: Origin, outcome: SectionOutcome) -> CreateCall
     ensures knows { (s : Scene) → Sound s → ComesOf origin (outcome_location outcome) s
         → OutcomeFact outcome s → CreateKnows result s }
-    ensures left { create_left result ≤ 3 }
+    ensures variant { create_variant result ≤ 3 }
     ensures locks { create_locks result ≡ outcome_locks outcome }
     ensures memory { create_starved result ≡ is_stopped outcome }
 {
@@ -111,9 +111,9 @@ impl Machine for CreateCall {
 
     ghost knows = { CreateKnows };
 
-    ghost left = { create_left };
+    ghost variant = { create_variant };
 
-    ghost earned = { Earned };
+    ghost earned = { MayAnswer };
 
     fn next(&self) -> Ask {
         match self {
@@ -131,7 +131,8 @@ impl Machine for CreateCall {
     }
 
     fn take(self, reply: Reply, at: u64) -> Turn<CreateCall, Finish>
-        ensures moves { Moves create_asks CreateKnows create_left Earned self reply at result }
+        ensures moves { Moves create_asks CreateKnows create_variant MayAnswer
+            self reply at result }
         ensures locks { LocksFollow create_locks (λ f. []) self
             (create_asks self).request result }
         ensures memory { NotesMemory create_starved self (create_asks self).request reply result }

@@ -3,7 +3,7 @@
 
 ghost use Rattle.std.specs.Prelude.{◌≡◌, ◌<◌, ◌||◌, ℕ, false, [], length, None};
 ghost use Rattle.dht_section.specs.declared.machine.Ask.{Ask};
-ghost use Rattle.dht_section.specs.Scene.{Scene, Earned};
+ghost use Rattle.dht_section.specs.Scene.{Scene, MayAnswer};
 ghost use Rattle.dht_section.specs.Turns.{Moves};
 ghost use Rattle.dht_section.specs.Section.{LocksFollow, OutcomeFact, outcome_location, outcome_locks, is_stopped};
 ghost use Rattle.dht_section.specs.Closing.{ClosingKnows, closing_finish, closing_locks};
@@ -12,7 +12,7 @@ ghost use Rattle.dht_section.specs.declared.machine.Turn.TheVariants as turn;
 ghost use Rattle.dht_client.specs.Found.{ShowsFile, found_at};
 ghost use Rattle.dht_client.specs.Memory.{is_enomem, NotesMemory};
 ghost use Rattle.dht_section.specs.Section.{HasPlace};
-ghost use Rattle.dht_client.specs.Lookup.{IsLookup, Seeks, aimed, first_lookup, found_answer, lookup_asks, lookup_left, lookup_locks, lookup_starved, lookup_taught, surveyed, LookupKnows};
+ghost use Rattle.dht_client.specs.Lookup.{IsLookup, Seeks, aimed, first_lookup, found_answer, lookup_asks, lookup_variant, lookup_locks, lookup_starved, lookup_taught, surveyed, LookupKnows};
 ghost use Rattle.dht_client.specs.LookupLaws.{lookup_permitted, lookup_stable};
 
 use super::layout::holder_in;
@@ -138,9 +138,9 @@ impl Machine for LookupCall {
 
     ghost knows = { LookupKnows };
 
-    ghost left = { lookup_left };
+    ghost variant = { lookup_variant };
 
-    ghost earned = { Earned };
+    ghost earned = { MayAnswer };
 
     fn next(&self) -> Ask {
         match self {
@@ -161,7 +161,8 @@ impl Machine for LookupCall {
     }
 
     fn take(self, reply: Reply, at: u64) -> Turn<LookupCall, Finish>
-        ensures moves { Moves lookup_asks LookupKnows lookup_left Earned self reply at result }
+        ensures moves { Moves lookup_asks LookupKnows lookup_variant MayAnswer
+            self reply at result }
         ensures locks { LocksFollow lookup_locks (λ f. []) self
             (lookup_asks self).request result }
         ensures memory { NotesMemory lookup_starved self (lookup_asks self).request reply result }

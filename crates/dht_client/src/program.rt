@@ -1,14 +1,14 @@
 //! The program of a call, whichever it is.
 
 ghost use Rattle.std.specs.Prelude.{◌≡◌, ◌<◌, ◌||◌, ℕ, [], None};
-ghost use Rattle.dht_section.specs.Scene.{Scene, Earned};
+ghost use Rattle.dht_section.specs.Scene.{Scene, MayAnswer};
 ghost use Rattle.dht_section.specs.Turns.{Moves};
 ghost use Rattle.dht_section.specs.Section.{LocksFollow};
 ghost use Rattle.dht_types.specs.declared.identifiers.Gfid.{Gfid as AGfid};
 ghost use Rattle.dht_section.specs.declared.machine.Turn.TheVariants as turn;
 ghost use Rattle.dht_client.specs.Found.{ShowsFile, found_at};
 ghost use Rattle.dht_client.specs.Memory.{NotesMemory};
-ghost use Rattle.dht_client.specs.Program.{program_asks, program_left, program_locks, program_starved, program_taught, ProgramKnows};
+ghost use Rattle.dht_client.specs.Program.{program_asks, program_variant, program_locks, program_starved, program_taught, ProgramKnows};
 ghost use Rattle.dht_client.specs.ProgramLaws.{program_permitted, program_stable};
 
 use super::create::CreateCall;
@@ -44,9 +44,9 @@ impl Machine for Program {
 
     ghost knows = { ProgramKnows };
 
-    ghost left = { program_left };
+    ghost variant = { program_variant };
 
-    ghost earned = { Earned };
+    ghost earned = { MayAnswer };
 
     #[tactic(auto, unfolding(crate::specs::Program::program_asks))]
     fn next(&self) -> Ask {
@@ -56,9 +56,10 @@ impl Machine for Program {
         }
     }
 
-    #[tactic(auto, unfolding(crate::specs::Program::program_asks, crate::specs::Program::program_left, crate::specs::Program::program_locks, crate::specs::Program::program_starved, crate::specs::Program::ProgramKnows))]
+    #[tactic(auto, unfolding(crate::specs::Program::program_asks, crate::specs::Program::program_variant, crate::specs::Program::program_locks, crate::specs::Program::program_starved, crate::specs::Program::ProgramKnows))]
     fn take(self, reply: Reply, at: u64) -> Turn<Program, Finish>
-        ensures moves { Moves program_asks ProgramKnows program_left Earned self reply at result }
+        ensures moves { Moves program_asks ProgramKnows program_variant MayAnswer
+            self reply at result }
         ensures locks { LocksFollow program_locks (λ f. []) self
             (program_asks self).request result }
         ensures memory { NotesMemory program_starved self (program_asks self).request reply result }

@@ -118,7 +118,10 @@ impl Files {
         hop: u64,
         slots: &mut S,
     ) -> Reply
-        ensures row { CarriesOut (FileRequest.MakeStandby file key.now.dir key.now.name source hop) (S.tables slots.old) (files_in self.old) result (S.tables slots.new) (files_in self.new) }
+        ensures row { CarriesOut
+            (FileRequest.MakeStandby file key.now.dir key.now.name source hop)
+            (S.tables slots.old) (files_in self.old) result (S.tables slots.new)
+            (files_in self.new) }
         ensures bricks { (S.tables slots.new).bricks ≡ (S.tables slots.old).bricks }
     {
         if !slots.has_dir(key.dir) {
@@ -165,7 +168,8 @@ impl Files {
 
     /// Changes a copy that is not dirty as a writer does, and marks it as dirty.
     pub(crate) fn standby_write(&mut self, file: Gfid, change: &Change) -> Reply
-        ensures { CarriesOutAlone (FileRequest.StandbyWrite file change.now) (files_in self.old) result (files_in self.new) }
+        ensures { CarriesOutAlone (FileRequest.StandbyWrite file change.now)
+            (files_in self.old) result (files_in self.new) }
     {
         let Some(Record::Standby(copy)) = self.kept(file) else {
             return Reply::Refused(refusal(self.kept(file)));
@@ -187,7 +191,8 @@ impl Files {
 
     /// Writes bytes of its source into a copy that is not dirty.
     pub(crate) fn copy_write(&mut self, file: Gfid, offset: u64, piece: &Bytes) -> Reply
-        ensures { CarriesOutAlone (FileRequest.CopyWrite file offset piece.now) (files_in self.old) result (files_in self.new) }
+        ensures { CarriesOutAlone (FileRequest.CopyWrite file offset piece.now)
+            (files_in self.old) result (files_in self.new) }
     {
         let Some(Record::Standby(copy)) = self.kept(file) else {
             return Reply::Refused(refusal(self.kept(file)));
@@ -207,7 +212,8 @@ impl Files {
 
     /// Says that a copy is no longer dirty.
     pub(crate) fn clear_dirty(&mut self, file: Gfid) -> Reply
-        ensures row { CarriesOutAlone (FileRequest.ClearDirty file) (files_in self.old) result (files_in self.new) }
+        ensures row { CarriesOutAlone (FileRequest.ClearDirty file) (files_in self.old) result
+            (files_in self.new) }
         ensures memory { result ≢ Reply.NoMemory }
     {
         let Some(Record::Standby(copy)) = self.kept(file) else {
@@ -220,7 +226,8 @@ impl Files {
 
     /// Gives a copy up: a pointer to its source is left, and no copy at its name.
     pub(crate) fn drop_standby<S: Slots>(&mut self, file: Gfid, slots: &mut S) -> Reply
-        ensures row { CarriesOut (FileRequest.DropStandby file) (S.tables slots.old) (files_in self.old) result (S.tables slots.new) (files_in self.new) }
+        ensures row { CarriesOut (FileRequest.DropStandby file) (S.tables slots.old)
+            (files_in self.old) result (S.tables slots.new) (files_in self.new) }
         ensures bricks { (S.tables slots.new).bricks ≡ (S.tables slots.old).bricks }
     {
         let Some(Record::Standby(copy)) = self.kept(file) else {
@@ -233,7 +240,8 @@ impl Files {
 
     /// Makes the copy of this hop the file, at its name, where the copy stands.
     pub(crate) fn promote<S: Slots>(&mut self, file: Gfid, hop: u64, slots: &mut S) -> Reply
-        ensures row { CarriesOut (FileRequest.Promote file hop) (S.tables slots.old) (files_in self.old) result (S.tables slots.new) (files_in self.new) }
+        ensures row { CarriesOut (FileRequest.Promote file hop) (S.tables slots.old)
+            (files_in self.old) result (S.tables slots.new) (files_in self.new) }
         ensures bricks { (S.tables slots.new).bricks ≡ (S.tables slots.old).bricks }
         ensures memory { result ≢ Reply.NoMemory }
     {

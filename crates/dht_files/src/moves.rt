@@ -21,7 +21,8 @@ impl Files {
     /// Says that a file is being copied to this brick. A file that has not just one link, or has a
     /// name that is marked for a rename, is refused with its links.
     pub(crate) fn mark<S: Slots>(&mut self, file: Gfid, dest: BrickNo, slots: &S) -> Reply
-        ensures { CarriesOut (FileRequest.Mark file dest) (S.tables slots.now) (files_in self.old) result (S.tables slots.now) (files_in self.new) }
+        ensures { CarriesOut (FileRequest.Mark file dest) (S.tables slots.now)
+            (files_in self.old) result (S.tables slots.now) (files_in self.new) }
     {
         let Some(record) = self.kept(file) else {
             return Reply::Refused(refusal(None));
@@ -37,7 +38,8 @@ impl Files {
 
     /// Says that a file is no longer being copied.
     pub(crate) fn unmark(&mut self, file: Gfid) -> Reply
-        ensures row { CarriesOutAlone (FileRequest.Unmark file) (files_in self.old) result (files_in self.new) }
+        ensures row { CarriesOutAlone (FileRequest.Unmark file) (files_in self.old) result
+            (files_in self.new) }
         ensures memory { result ≢ Reply.NoMemory }
     {
         match self.kept(file) {
@@ -53,7 +55,9 @@ impl Files {
     /// Gives a file up to the brick to which it was copied. At its name, which has to be its own and
     /// not marked for a rename, a linkto to that brick is left, and of its record a pointer.
     pub(crate) fn demote<S: Slots>(&mut self, file: Gfid, key: &EntryKey, slots: &mut S) -> Reply
-        ensures row { CarriesOut (FileRequest.Demote file key.now.dir key.now.name) (S.tables slots.old) (files_in self.old) result (S.tables slots.new) (files_in self.new) }
+        ensures row { CarriesOut (FileRequest.Demote file key.now.dir key.now.name)
+            (S.tables slots.old) (files_in self.old) result (S.tables slots.new)
+            (files_in self.new) }
         ensures bricks { (S.tables slots.new).bricks ≡ (S.tables slots.old).bricks }
         ensures memory { result ≢ Reply.NoMemory }
     {
@@ -69,7 +73,8 @@ impl Files {
 
     /// Takes away the record of a file that has no links.
     pub(crate) fn drop_file<S: Slots>(&mut self, file: Gfid, slots: &S) -> Reply
-        ensures row { CarriesOut (FileRequest.Drop file) (S.tables slots.now) (files_in self.old) result (S.tables slots.now) (files_in self.new) }
+        ensures row { CarriesOut (FileRequest.Drop file) (S.tables slots.now)
+            (files_in self.old) result (S.tables slots.now) (files_in self.new) }
         ensures memory { result ≢ Reply.NoMemory }
     {
         if !self.contains(file) {
@@ -89,7 +94,8 @@ impl Files {
         requires { IsSome (get (files_in self.old) file) }
         ensures bytes { IfSome (get (files_in self.old) file) (λ r. result ≡ bytes_of r) }
         ensures kept { IsSome (get (files_in self.new) file) }
-        ensures others { (r : Record) → insert (files_in self.new) file r ≡ insert (files_in self.old) file r }
+        ensures others { (r : Record)
+            → insert (files_in self.new) file r ≡ insert (files_in self.old) file r }
     {
         match self.replace(file, Record::Forward(0, BrickNo(0))) {
             Some(Record::Live(_, bytes) | Record::Moving(_, _, bytes)) => bytes,

@@ -28,7 +28,8 @@ fn dest(kept: &Record) -> Option<BrickNo>
 impl Files {
     /// Bytes of a file.
     pub(crate) fn read(&self, file: Gfid, offset: u64, size: u64) -> Reply
-        ensures { CarriesOutAlone (FileRequest.Read file offset size) (files_in self.now) result (files_in self.now) }
+        ensures { CarriesOutAlone (FileRequest.Read file offset size) (files_in self.now) result
+            (files_in self.now) }
     {
         let Some(record) = self.kept(file) else {
             return Reply::Refused(refusal(None));
@@ -41,7 +42,8 @@ impl Files {
 
     /// A file's length, hops and links.
     pub(crate) fn stat<S: Slots>(&self, file: Gfid, slots: &S) -> Reply
-        ensures { CarriesOut (FileRequest.Stat file) (S.tables slots.now) (files_in self.now) result (S.tables slots.now) (files_in self.now) }
+        ensures { CarriesOut (FileRequest.Stat file) (S.tables slots.now)
+            (files_in self.now) result (S.tables slots.now) (files_in self.now) }
     {
         let Some(record) = self.kept(file) else {
             return Reply::Refused(refusal(None));

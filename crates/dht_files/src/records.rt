@@ -63,7 +63,8 @@ impl Files {
     /// nothing changes.
     pub fn make(&mut self, file: Gfid) -> Result<(), AllocError>
         requires { get (files_in self.old) file ≡ None }
-        ensures ok { OnOk result (files_in self.new ≡ insert (files_in self.old) file (Record.Live 0 [])) }
+        ensures ok { OnOk result (files_in self.new
+            ≡ insert (files_in self.old) file (Record.Live 0 [])) }
         ensures err { OnErr result (files_in self.new ≡ files_in self.old) }
     {
         self.put(file, Record::Live(0, Bytes::new(Vec::new(self.alloc))))

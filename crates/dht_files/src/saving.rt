@@ -7,11 +7,12 @@ ghost use Rattle.dht_brick.specs.Saving.{IsFileOf, file_in, file_restored, file_
 ghost use Rattle.dht_files.specs.Records.{files_in};
 
 use crate::records::Files;
-use dht_brick::order::is_gfid_above;
+use dht_brick::order::gfids_from;
 use dht_types::identifiers::Gfid;
 use dht_types::saved::{Saved, SavedFile};
 use dht_types::stored::{Record, StandbyRecord};
 use std::alloc::{AllocError, Global};
+use std::ops::Bound;
 
 /// The same record again.
 fn copied(alloc: Global, kept: &Record) -> Result<Record, AllocError>
@@ -38,17 +39,17 @@ impl Files {
     pub fn next_key(&self, after: Option<Gfid>) -> Option<Gfid>
         ensures { result ≡ key_above (files_in self.now) after }
     {
-        for (file, _) in &self.records {
-            if is_gfid_above(after, *file) {
-                return Some(*file);
-            }
-        }
-        None
+        let (file, _) = self
+            .records
+            .range((gfids_from(after), Bound::Unbounded))
+            .next()?;
+        Some(*file)
     }
 
     /// The sidecar record of a file's record, and none where it has no record.
     pub fn saved(&self, key: Gfid) -> Result<Option<Saved>, AllocError>
-        ensures { IfOk result (λ saved. saved ≡ option_map Saved.File (file_saved (files_in self.now) key)) }
+        ensures { IfOk result (λ saved. saved
+            ≡ option_map Saved.File (file_saved (files_in self.now) key)) }
     {
         let Some(record) = self.kept(key) else {
             return Ok(None);
@@ -61,7 +62,9 @@ impl Files {
     /// away where none is given. Where there is no memory for it, nothing changes.
     pub fn restore(&mut self, key: Gfid, saved: Option<&Saved>) -> Result<(), AllocError>
         requires { IfSome (option_copied saved) (IsFileOf key) }
-        ensures ok { OnOk result (files_in self.new ≡ file_restored key (option_and_then file_in (option_copied saved.entry)) (files_in self.old)) }
+        ensures ok { OnOk result (files_in self.new
+            ≡ file_restored key (option_and_then file_in (option_copied saved.entry))
+            (files_in self.old)) }
         ensures err { OnErr result (files_in self.new ≡ files_in self.old) }
     {
         match saved {

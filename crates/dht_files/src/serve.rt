@@ -45,7 +45,8 @@ impl Files {
     /// is done; but to unmark, demote, promote or drop a file, and to say that a copy is clean, takes
     /// none.
     pub fn serve<S: Slots>(&mut self, request: &FileRequest, slots: &mut S) -> Reply
-        ensures row { Serves (file_row (S.tables slots.old).bricks request.now (store_of (S.tables slots.old) (files_in self.old)))
+        ensures row { Serves (file_row (S.tables slots.old).bricks request.now (store_of
+            (S.tables slots.old) (files_in self.old)))
             (store_of (S.tables slots.old) (files_in self.old)) result (store_of (S.tables slots.new) (files_in self.new)) }
         ensures bricks { (S.tables slots.new).bricks ≡ (S.tables slots.old).bricks }
         ensures memory { FileTakesNoMemory request.now → result ≢ Reply.NoMemory }
@@ -59,7 +60,8 @@ impl Files {
 
     /// Carries out a request that the table lets through, or refuses it by its further conditions.
     fn carry_out<S: Slots>(&mut self, request: &FileRequest, slots: &mut S) -> Reply
-        ensures row { CarriesOut request.now (S.tables slots.old) (files_in self.old) result (S.tables slots.new) (files_in self.new) }
+        ensures row { CarriesOut request.now (S.tables slots.old) (files_in self.old) result
+            (S.tables slots.new) (files_in self.new) }
         ensures bricks { (S.tables slots.new).bricks ≡ (S.tables slots.old).bricks }
         ensures memory { FileTakesNoMemory request.now → result ≢ Reply.NoMemory }
     {

@@ -1,7 +1,7 @@
 //! What is shown of all file records: the files without links, the lines of a dump, and how many
 //! there are.
 
-ghost use Rattle.std.specs.Prelude.{◌≡◌, ◌<◌, ◌^◌, ◌++◌, Some, IfOk, OnOk, map, sum_by};
+ghost use Rattle.std.specs.Prelude.{◌≡◌, ◌<◌, ◌^◌, ◌++◌, None, Some, IfOk, OnOk, map, sum_by};
 ghost use Rattle.std.specs.FinMap.{entries, len, values};
 ghost use Rattle.dht_brick.specs.Contents.{Files as Records, store_of};
 ghost use Rattle.dht_brick.specs.Parts.{is_live};
@@ -11,7 +11,7 @@ ghost use Rattle.dht_brick.specs.Looks.{is_orphan, orphans_of};
 ghost use Rattle.dht_files.specs.Records.{files_in};
 
 use crate::records::{self, Files};
-use dht_brick::order::{PAGE_SIZE, is_gfid_above};
+use dht_brick::order::{PAGE_SIZE, gfids_from};
 use dht_brick::replies::Gfids;
 use dht_brick::slots::Slots;
 use dht_types::identifiers::{BrickNo, Gfid};
@@ -19,6 +19,7 @@ use dht_types::lines::{DumpLine, RecordLine};
 use dht_types::stored::Record;
 use sha2::{Digest, Sha256};
 use std::alloc::AllocError;
+use std::ops::Bound;
 
 /// Whether the file is here.
 fn is_live(kept: &Record) -> bool
@@ -27,11 +28,12 @@ fn is_live(kept: &Record) -> bool
     matches!(kept, Record::Live(_, _))
 }
 
-/// Whether a file above another one, or any, is here and has no links.
-fn is_orphan<S: Slots>(after: Option<Gfid>, file: Gfid, kept: &Record, slots: &S) -> bool
-    ensures { (files : Records) → result ≡ is_orphan (store_of (S.tables slots.now) files) after (file, kept.now) }
+/// Whether a file is here and has no links.
+fn is_orphan<S: Slots>(file: Gfid, kept: &Record, slots: &S) -> bool
+    ensures { (files : Records)
+        → result ≡ is_orphan (store_of (S.tables slots.now) files) None (file, kept.now) }
 {
-    is_gfid_above(after, file) && is_live(kept) && slots.links(file) == 0
+    is_live(kept) && slots.links(file) == 0
 }
 
 /// The line of a record, of a file with so many links.
@@ -78,14 +80,15 @@ impl Files {
     /// The files above this one, or from the start, that are here and have no links: the first 256,
     /// in their order.
     pub fn orphans<S: Slots>(&self, after: Option<Gfid>, slots: &S) -> Result<Gfids, AllocError>
-        ensures { IfOk result (λ orphans. orphans ≡ orphans_of (store_of (S.tables slots.now) (files_in self.now)) after) }
+        ensures { IfOk result (λ orphans. orphans
+            ≡ orphans_of (store_of (S.tables slots.now) (files_in self.now)) after) }
     {
         let mut each = Vec::new(self.alloc);
-        for (file, record) in &self.records {
+        for (file, record) in self.records.range((gfids_from(after), Bound::Unbounded)) {
             if each.len() == PAGE_SIZE {
                 return Ok(Gfids::new(each));
             }
-            if is_orphan(after, *file, record, slots) {
+            if is_orphan(*file, record, slots) {
                 each.push(*file)?;
             }
         }
@@ -99,7 +102,9 @@ impl Files {
         slots: &S,
         out: &mut Vec<DumpLine>,
     ) -> Result<(), AllocError>
-        ensures { OnOk result (out.new.items ≡ out.old.items ++ map (file_line brick (store_of (S.tables slots.now) (files_in self.now))) (entries (files_in self.now))) }
+        ensures { OnOk result (out.new.items
+            ≡ out.old.items ++ map (file_line brick (store_of (S.tables slots.now)
+            (files_in self.now))) (entries (files_in self.now))) }
     {
         for (file, record) in &self.records {
             let links = slots.links(*file);

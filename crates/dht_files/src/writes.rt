@@ -67,8 +67,10 @@ pub(crate) fn made(change: Result<(), AllocError>) -> Reply
 impl Files {
     /// Writes bytes at an offset.
     pub(crate) fn write(&mut self, file: Gfid, offset: u64, piece: &Bytes) -> Reply
-        ensures write { CarriesOutAlone (FileRequest.Write file offset piece.now) (files_in self.old) result (files_in self.new) }
-        ensures locked { CarriesOutAlone (FileRequest.LockedWrite file offset piece.now) (files_in self.old) result (files_in self.new) }
+        ensures write { CarriesOutAlone (FileRequest.Write file offset piece.now)
+            (files_in self.old) result (files_in self.new) }
+        ensures locked { CarriesOutAlone (FileRequest.LockedWrite file offset piece.now)
+            (files_in self.old) result (files_in self.new) }
     {
         let Some(header) = Header::of(self.kept(file)) else {
             return Reply::Refused(refusal(self.kept(file)));
@@ -81,8 +83,10 @@ impl Files {
 
     /// Sets the length.
     pub(crate) fn truncate(&mut self, file: Gfid, size: u64) -> Reply
-        ensures truncate { CarriesOutAlone (FileRequest.Truncate file size) (files_in self.old) result (files_in self.new) }
-        ensures locked { CarriesOutAlone (FileRequest.LockedTruncate file size) (files_in self.old) result (files_in self.new) }
+        ensures truncate { CarriesOutAlone (FileRequest.Truncate file size)
+            (files_in self.old) result (files_in self.new) }
+        ensures locked { CarriesOutAlone (FileRequest.LockedTruncate file size)
+            (files_in self.old) result (files_in self.new) }
     {
         let Some(header) = Header::of(self.kept(file)) else {
             return Reply::Refused(refusal(self.kept(file)));

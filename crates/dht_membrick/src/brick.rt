@@ -11,7 +11,7 @@ use dht_brick::replies::Reply;
 use dht_brick::requests::Request;
 use dht_files::Files;
 use dht_locks::Locks;
-use dht_names::tables::Tables;
+use dht_names::Tables;
 use dht_opens::Opens;
 use dht_types::identifiers::{BrickNo, CallNo, ClientNo, Gfid};
 use dht_types::lines::DumpLine;
@@ -76,7 +76,8 @@ impl Brick for MemBrick {
     fn serve(&mut self, client: ClientNo, call: CallNo, request: &Request) -> Reply
         requires spare { 1 ≤ (mem_state self.old).spare }
         requires sent { MayBeSent (length (mem_state self.old).volume.names) request.now }
-        ensures served { ServesRequest client call request.now (mem_state self.old) result (mem_state self.new) }
+        ensures served { ServesRequest client call request.now (mem_state self.old) result
+            (mem_state self.new) }
         ensures memory { TakesNoMemory request.now → result ≢ Reply.NoMemory }
     {
         if self.is_unreachable(request) {

@@ -13,7 +13,7 @@ use crate::brick::MemBrick;
 use dht_brick::journal::Journal;
 use dht_files::Files;
 use dht_locks::Locks;
-use dht_names::tables::Tables;
+use dht_names::Tables;
 use dht_opens::Opens;
 use dht_types::bytes::Bytes;
 use dht_types::identifiers::{BrickNo, Gfid};
@@ -51,7 +51,8 @@ fn first_value(
     first: bool,
 ) -> Result<Option<Bytes>, AllocError>
     requires { brick.0 < length volume.now.names }
-    ensures value { IfOk result (λ v. v ≡ (if first then planned_value volume.now.weights root brick.0 else None)) }
+    ensures value { IfOk result (λ v. v
+        ≡ (if first then planned_value volume.now.weights root brick.0 else None)) }
     ensures text { IfOk result (λ v. IfSome v IsValue) }
 {
     if first {
@@ -64,7 +65,8 @@ fn first_value(
 /// The record of the root, with this attribute.
 fn root_record(alloc: Global, value: Option<Bytes>) -> Saved
     requires { IfSome value IsValue }
-    ensures is { result ≡ Saved.Dir (record { gfid = root; dir = record { place = None; depth = 0; value = value }; slots = [] }) }
+    ensures is { result
+        ≡ Saved.Dir (record { gfid = root; dir = record { place = None; depth = 0; value = value }; slots = [] }) }
     ensures spelled { IsDirOf root result }
 {
     Saved::Dir(SavedDir {

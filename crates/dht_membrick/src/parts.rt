@@ -15,7 +15,8 @@ use dht_types::locks::{Key, Mode};
 
 /// Registers a file as opened by this call of this client, where it is not sealed.
 pub(crate) fn register(opens: &mut Opens, client: ClientNo, call: CallNo, file: Gfid) -> Reply
-    ensures { Serves (register_row client call file (opens_in opens.old)) (opens_in opens.old) result (opens_in opens.new) }
+    ensures { Serves (register_row client call file (opens_in opens.old))
+        (opens_in opens.old) result (opens_in opens.new) }
 {
     match opens.register(file, client, call) {
         Ok(()) => Reply::Ok(Given::Nothing),
@@ -26,7 +27,8 @@ pub(crate) fn register(opens: &mut Opens, client: ClientNo, call: CallNo, file: 
 
 /// Takes a registration back, and says how many the file has left.
 pub(crate) fn unregister(opens: &mut Opens, client: ClientNo, file: Gfid, opened: CallNo) -> Reply
-    ensures row { Serves (unregister_row client file opened (opens_in opens.old)) (opens_in opens.old) result (opens_in opens.new) }
+    ensures row { Serves (unregister_row client file opened (opens_in opens.old))
+        (opens_in opens.old) result (opens_in opens.new) }
     ensures memory { result ≢ Reply.NoMemory }
 {
     let left = opens.unregister(file, client, opened);
@@ -35,7 +37,8 @@ pub(crate) fn unregister(opens: &mut Opens, client: ClientNo, file: Gfid, opened
 
 /// Seals a file that has no registrations.
 pub(crate) fn seal(opens: &mut Opens, file: Gfid) -> Reply
-    ensures { Serves (seal_row file (opens_in opens.old)) (opens_in opens.old) result (opens_in opens.new) }
+    ensures { Serves (seal_row file (opens_in opens.old)) (opens_in opens.old) result
+        (opens_in opens.new) }
 {
     match opens.seal(file) {
         Ok(()) => Reply::Ok(Given::Nothing),

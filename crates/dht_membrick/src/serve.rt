@@ -19,7 +19,8 @@ impl MemBrick {
     #[tactic(auto, unfolding(crate::specs::State::mem_state))]
     pub(crate) fn answer(&mut self, client: ClientNo, call: CallNo, request: &Request) -> Reply
         requires { MayBeSent (length (mem_state self.old).volume.names) request.now }
-        ensures { Answered client call request.now (mem_state self.old) result (mem_state self.new) }
+        ensures { Answered client call request.now (mem_state self.old) result
+            (mem_state self.new) }
     {
         if self.is_armed {
             self.is_armed = false;
@@ -34,10 +35,12 @@ impl MemBrick {
     #[tactic(auto, unfolding(crate::specs::State::mem_state))]
     fn carry_out(&mut self, client: ClientNo, call: CallNo, request: &Request) -> Reply
         requires { MayBeSent (length (mem_state self.old).volume.names) request.now }
-        ensures row { Serves (row (mem_state self.old).volume.names client call request.now (mem_state self.old).contents)
+        ensures row { Serves (row (mem_state self.old).volume.names client call request.now
+            (mem_state self.old).contents)
             (mem_state self.old).contents result (mem_state self.new).contents }
         ensures memory { TakesNoMemory request.now → result ≢ Reply.NoMemory }
-        ensures same { mem_state self.new ≡ record (mem_state self.old) { contents = (mem_state self.new).contents } }
+        ensures same { mem_state self.new
+            ≡ record (mem_state self.old) { contents = (mem_state self.new).contents } }
     {
         match request {
             Request::Lock(key, mode) => parts::lock(&mut self.locks, client, key, *mode),

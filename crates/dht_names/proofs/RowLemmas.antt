@@ -1,8 +1,9 @@
 -- When the rows of requests about names are met.
-use Rattle.std.proofs.Common.{◌≡◌, Bool, true, false, true≢false, cond, refl, sym, ap, subst, ◌∙◌}
+use Rattle.std.proofs.Common.{◌≡◌, ℕ, List, Bool, true, false, true≢false, cond, refl, sym, ap, subst, ◌∙◌}
 use Rattle.std.specs.Prelude.{Option, Some, None, Result, Ok, Err, OnOk, is_none, is_some, is_err}
 use Rattle.std.specs.FinMap.{get, insert, remove}
 use Rattle.dht_types.specs.declared.identifiers.Gfid.{Gfid}
+use Rattle.dht_types.specs.declared.names.EntryKey.{EntryKey}
 use Rattle.dht_types.specs.declared.stored.DirRecord.{DirRecord}
 use Rattle.dht_types.specs.declared.stored.Slot.{Slot}
 use Rattle.dht_types.specs.declared.stored.Record.{Record}
@@ -12,7 +13,7 @@ use Rattle.dht_brick.specs.Contents.{Tables, Files, Store, Slots, store_of, slot
 use Rattle.dht_brick.proofs.TableLemmas.{gfid_total, gfid_exact, remove-insert}
 use Rattle.dht_brick.specs.Looks.{shape_of}
 use Rattle.dht_brick.specs.Named.{name_named}
-use Rattle.dht_brick.specs.NameRows.{when, slot_row, on_slot, beside, given_by}
+use Rattle.dht_brick.specs.NameRows.{name_row, when, slot_row, on_slot, beside, given_by}
 use Rattle.dht_brick.specs.Outcome.{Outcome, Do, in_dir, Serves}
 use Rattle.dht_brick.specs.Parts.{state_of, slot_shown, put_slot}
 use Rattle.dht_brick.specs.declared.replies.Given.{Given}
@@ -21,7 +22,7 @@ use Rattle.dht_brick.specs.declared.replies.Reply.{Reply}
 use Rattle.dht_brick.specs.declared.replies.Reply.TheVariants as reply
 use Rattle.dht_brick.specs.declared.replies.Why.TheVariants as why
 use Rattle.dht_brick.specs.declared.requests.NameRequest.{NameRequest}
-use Rattle.dht_names.specs.Served.{Meets, Changes}
+use Rattle.dht_names.specs.Served.{Meets, MeetsRow, Changes, lacks_dir}
 
 -- ---- the state in the outline of a record
 
@@ -91,3 +92,17 @@ none-is (Some x) e = cc
 pub ok-made : {T E : Type 0} (r : Result T E) (P : Type 0) {b : Bool} → OnOk r P → b ≡ is_err r → b ≡ false → P
 ok-made (Ok x) P h e n = h
 ok-made (Err y) P h e n = absurd (true≢false (sym e ∙ n))
+
+-- ---- what a function made of a slot answers the request
+
+module _ (t t2 : Tables) (f : Files) (r : Reply) (q : NameRequest) (known : lacks_dir t.dirs q ≡ false) (k : EntryKey) (d : Gfid) (n : List ℕ) (key : k ≡ record { dir = d; name = n }) where
+  -- where the request is this one of its key, and its row is that of a directory which is there
+  pub answered : (made : EntryKey → NameRequest) (outcome : EntryKey → Store → Outcome Store) → q ≡ made (record { dir = d; name = n })
+      → lacks_dir t.dirs (made (record { dir = d; name = n })) ≡ is_none (get t.dirs d)
+      → name_row t.bricks (made (record { dir = d; name = n })) ≡ (λ s. in_dir (get s.dirs d) (λ _. outcome (record { dir = d; name = n }) s))
+      → ((f : Files) → Meets (outcome k) t f r t2 f) → MeetsRow q t f r t2 f
+  answered made outcome is there_is row_is change =
+      subst (λ (x : NameRequest). MeetsRow x t f r t2 f) (sym is)
+      (subst (λ (o : Store → Outcome Store). Meets o t f r t2 f) (sym row_is)
+      (there (outcome (record { dir = d; name = n })) t t2 f f d r (sym there_is ∙ subst (λ (x : NameRequest). lacks_dir t.dirs x ≡ false) is known)
+      (subst (λ (x : EntryKey). Meets (outcome x) t f r t2 f) key (change f))))

@@ -4,7 +4,7 @@ use Rattle.dht_brick.specs.Contents.{Dirs, Slots, Tables as Contained, gfid_cmp}
 use Rattle.dht_names.specs.Slots.{map_in}
 use Rattle.dht_names.specs.declared.dirs.DirTable.{DirTable}
 use Rattle.dht_names.specs.declared.slots.SlotTable.{SlotTable}
-use Rattle.dht_names.specs.declared.tables.Tables.{Tables}
+use Rattle.dht_names.specs.declared.brick_tables.Tables.{Tables}
 pub use Rattle.dht_names.specs.Slots.{main_of, slot_of}
 
 -- the directory records

@@ -1,7 +1,11 @@
 -- What the map of the slots of a brick in memory contains.
-use Rattle.std.specs.Prelude.{map}
+use Rattle.std.specs.Prelude.{ℕ, Option, Some, None, List, [], map}
+use Rattle.std.specs.declared.ops.Bound.{Bound}
+use Rattle.std.specs.declared.ops.Bound.TheVariants.{Included, Excluded}
 use Rattle.std.specs.Option.{option_map}
 use Rattle.std.specs.FinMap.{from_entries}
+use Rattle.dht_types.specs.declared.identifiers.Gfid.{Gfid}
+use Rattle.dht_types.specs.declared.names.EntryKey.{EntryKey}
 use Rattle.dht_types.specs.declared.stored.Main.{Main}
 use Rattle.dht_types.specs.declared.stored.Main.TheVariants.{Dir, File, Linkto}
 use Rattle.dht_types.specs.declared.stored.Slot.{Slot}
@@ -24,3 +28,8 @@ slot_of k = record { main = option_map main_of k.main; standby = k.standby }
 -- the slots
 unfoldable pub map_in : SlotMap → Slots
 map_in t = from_entries {R = entry_cmp} (map (λ e. (entry_at e.0, slot_of e.1)) t.kept.entries)
+
+-- where the names of a directory above one begin, or all of them
+abbrev pub start_of : Gfid → Option (List ℕ) → Bound EntryKey
+start_of d None = Included (record { dir = d; name = [] })
+start_of d (Some after) = Excluded (record { dir = d; name = after })

@@ -13,9 +13,9 @@ ghost use Rattle.dht_brick.specs.declared.requests.NameRequest.{NameRequest};
 ghost use Rattle.dht_names.specs.Kept.{tables_in, main_of};
 ghost use Rattle.dht_names.specs.Served.{Meets, Changes, ChangesAlone};
 
+use crate::brick_tables::Tables;
 use crate::dirs::copied;
 use crate::kept::KeptMain;
-use crate::tables::Tables;
 use dht_brick::files::FileRecords;
 use dht_brick::replies::{Given, Reply, SlotShown, Why};
 use dht_guard::State;
@@ -56,7 +56,8 @@ impl Tables {
         depth: u16,
         value: &Option<Bytes>,
     ) -> Reply
-        ensures { ChangesAlone (NameRequest.MakeDir key.now.dir key.now.name made depth value.now) (tables_in self.old) result (tables_in self.new) }
+        ensures { ChangesAlone (NameRequest.MakeDir key.now.dir key.now.name made depth value.now)
+            (tables_in self.old) result (tables_in self.new) }
     {
         let parts = self.slots.parts(key);
         if !parts.is_free() {
@@ -124,7 +125,8 @@ impl Tables {
         file: Gfid,
         files: &mut F,
     ) -> Reply
-        ensures { Changes (NameRequest.Create key.now.dir key.now.name file) (tables_in self.old) (F.files files.old) result (tables_in self.new) (F.files files.new) }
+        ensures { Changes (NameRequest.Create key.now.dir key.now.name file) (tables_in self.old)
+            (F.files files.old) result (tables_in self.new) (F.files files.new) }
     {
         let parts = self.slots.parts(key);
         if !parts.is_bare() || !is_absent(files, file) {
@@ -144,7 +146,8 @@ impl Tables {
 
     /// Puts a linkto of this value at a name that stands for nothing.
     pub(crate) fn make_linkto(&mut self, key: &EntryKey, value: &Bytes) -> Reply
-        ensures { ChangesAlone (NameRequest.MakeLinkto key.now.dir key.now.name value.now) (tables_in self.old) result (tables_in self.new) }
+        ensures { ChangesAlone (NameRequest.MakeLinkto key.now.dir key.now.name value.now)
+            (tables_in self.old) result (tables_in self.new) }
     {
         let parts = self.slots.parts(key);
         if !parts.is_vacant() {
@@ -161,7 +164,8 @@ impl Tables {
 
     /// Takes the linkto at a name away.
     pub(crate) fn drop_linkto(&mut self, key: &EntryKey) -> Reply
-        ensures change { ChangesAlone (NameRequest.DropLinkto key.now.dir key.now.name) (tables_in self.old) result (tables_in self.new) }
+        ensures change { ChangesAlone (NameRequest.DropLinkto key.now.dir key.now.name)
+            (tables_in self.old) result (tables_in self.new) }
         ensures memory { result ≢ Reply.NoMemory }
     {
         let parts = self.slots.parts(key);
@@ -174,7 +178,8 @@ impl Tables {
 
     /// Takes the name of a file away, and says how many links are left.
     pub(crate) fn unlink<F: FileRecords>(&mut self, key: &EntryKey, file: Gfid, files: &F) -> Reply
-        ensures { Changes (NameRequest.Unlink key.now.dir key.now.name file) (tables_in self.old) (F.files files.now) result (tables_in self.new) (F.files files.now) }
+        ensures { Changes (NameRequest.Unlink key.now.dir key.now.name file) (tables_in self.old)
+            (F.files files.now) result (tables_in self.new) (F.files files.now) }
     {
         let parts = self.slots.parts(key);
         if !parts.is_plain(file) || !is_live(files, file) {
@@ -186,7 +191,8 @@ impl Tables {
 
     /// Gives a name that stands for nothing to a file.
     pub(crate) fn link<F: FileRecords>(&mut self, key: &EntryKey, file: Gfid, files: &F) -> Reply
-        ensures { Changes (NameRequest.Link key.now.dir key.now.name file) (tables_in self.old) (F.files files.now) result (tables_in self.new) (F.files files.now) }
+        ensures { Changes (NameRequest.Link key.now.dir key.now.name file) (tables_in self.old)
+            (F.files files.now) result (tables_in self.new) (F.files files.now) }
     {
         let parts = self.slots.parts(key);
         if !parts.is_free() || !is_live(files, file) {
@@ -207,7 +213,9 @@ impl Tables {
         over: Gfid,
         files: &F,
     ) -> Reply
-        ensures { Changes (NameRequest.LinkOver key.now.dir key.now.name file over) (tables_in self.old) (F.files files.now) result (tables_in self.new) (F.files files.now) }
+        ensures { Changes (NameRequest.LinkOver key.now.dir key.now.name file over)
+            (tables_in self.old) (F.files files.now) result (tables_in self.new)
+            (F.files files.now) }
     {
         let parts = self.slots.parts(key);
         let are_two = file != over && is_live(files, file) && is_live(files, over);
@@ -228,7 +236,9 @@ impl Tables {
         brick: BrickNo,
         files: &F,
     ) -> Reply
-        ensures { Changes (NameRequest.Contest key.now.dir key.now.name file brick) (tables_in self.old) (F.files files.now) result (tables_in self.new) (F.files files.now) }
+        ensures { Changes (NameRequest.Contest key.now.dir key.now.name file brick)
+            (tables_in self.old) (F.files files.now) result (tables_in self.new)
+            (F.files files.now) }
     {
         let parts = self.slots.parts(key);
         if !parts.is_plain(file) || !is_live(files, file) {
@@ -241,7 +251,8 @@ impl Tables {
 
     /// Takes that mark away.
     pub(crate) fn uncontest(&mut self, key: &EntryKey, file: Gfid) -> Reply
-        ensures change { ChangesAlone (NameRequest.Uncontest key.now.dir key.now.name file) (tables_in self.old) result (tables_in self.new) }
+        ensures change { ChangesAlone (NameRequest.Uncontest key.now.dir key.now.name file)
+            (tables_in self.old) result (tables_in self.new) }
         ensures memory { result ≢ Reply.NoMemory }
     {
         let parts = self.slots.parts(key);
@@ -259,7 +270,9 @@ impl Tables {
         file: Gfid,
         files: &F,
     ) -> Reply
-        ensures { Changes (NameRequest.StandLink key.now.dir key.now.name file) (tables_in self.old) (F.files files.now) result (tables_in self.new) (F.files files.now) }
+        ensures { Changes (NameRequest.StandLink key.now.dir key.now.name file)
+            (tables_in self.old) (F.files files.now) result (tables_in self.new)
+            (F.files files.now) }
     {
         let parts = self.slots.parts(key);
         if !parts.is_free() || !is_live(files, file) {
@@ -273,7 +286,8 @@ impl Tables {
 
     /// Takes that back.
     pub(crate) fn drop_stand_link(&mut self, key: &EntryKey, file: Gfid) -> Reply
-        ensures change { ChangesAlone (NameRequest.DropStandLink key.now.dir key.now.name file) (tables_in self.old) result (tables_in self.new) }
+        ensures change { ChangesAlone (NameRequest.DropStandLink key.now.dir key.now.name file)
+            (tables_in self.old) result (tables_in self.new) }
         ensures memory { result ≢ Reply.NoMemory }
     {
         let parts = self.slots.parts(key);
@@ -287,7 +301,8 @@ impl Tables {
     /// Takes the marked name of a file away, leaves a linkto to the brick for which it was marked, and
     /// says how many links are left.
     pub(crate) fn swap(&mut self, key: &EntryKey, file: Gfid, value: &Bytes) -> Reply
-        ensures change { ChangesAlone (NameRequest.Swap key.now.dir key.now.name file value.now) (tables_in self.old) result (tables_in self.new) }
+        ensures change { ChangesAlone (NameRequest.Swap key.now.dir key.now.name file value.now)
+            (tables_in self.old) result (tables_in self.new) }
         ensures memory { result ≢ Reply.NoMemory }
     {
         let parts = self.slots.parts(key);
@@ -303,7 +318,8 @@ impl Tables {
 
     /// Gives a name to the file for which it was readied.
     pub(crate) fn promote_link(&mut self, key: &EntryKey, file: Gfid) -> Reply
-        ensures change { ChangesAlone (NameRequest.PromoteLink key.now.dir key.now.name file) (tables_in self.old) result (tables_in self.new) }
+        ensures change { ChangesAlone (NameRequest.PromoteLink key.now.dir key.now.name file)
+            (tables_in self.old) result (tables_in self.new) }
         ensures memory { result ≢ Reply.NoMemory }
     {
         let parts = self.slots.parts(key);
@@ -316,7 +332,8 @@ impl Tables {
 
     /// The brick that a linkto value names, if it names one. Such a value is short.
     fn brick_of(&self, value: &[u8]) -> Option<BrickNo>
-        ensures brick { option_map (λ b. b.0) result ≡ linked_brick (tables_in self.now).bricks value.now }
+        ensures brick { option_map (λ b. b.0) result
+            ≡ linked_brick (tables_in self.now).bricks value.now }
         ensures short { IfSome result (λ b. length value.now ≤ 255) }
     {
         self.volume.bricks();

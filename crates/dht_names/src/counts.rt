@@ -189,8 +189,10 @@ impl Counts {
     pub(crate) fn recount(&mut self, dir: Gfid, old: &SlotShown, new: &SlotShown)
         requires there { HasAll (tallies_in self.old) dir new.now }
         requires few { (g : Gfid) → (k : Kind) → counter (tallies_in self.old) g k < 2 ^ 63 }
-        requires counted { (g : Gfid) → (k : Kind) → weight k g dir old.now ≤ counter (tallies_in self.old) g k }
-        ensures { (g : Gfid) → (k : Kind) → counter (tallies_in self.new) g k + weight k g dir old.now
+        requires counted { (g : Gfid) → (k : Kind)
+            → weight k g dir old.now ≤ counter (tallies_in self.old) g k }
+        ensures { (g : Gfid) → (k : Kind)
+            → counter (tallies_in self.new) g k + weight k g dir old.now
             ≡ counter (tallies_in self.old) g k + weight k g dir new.now }
     {
         self.count(dir, new);
@@ -226,8 +228,10 @@ impl Counts {
 
     /// Counts one slot less.
     fn discount(&mut self, dir: Gfid, slot: &SlotShown)
-        requires { (g : Gfid) → (k : Kind) → weight k g dir slot.now ≤ counter (tallies_in self.old) g k }
-        ensures { (g : Gfid) → (k : Kind) → counter (tallies_in self.new) g k + weight k g dir slot.now
+        requires { (g : Gfid) → (k : Kind)
+            → weight k g dir slot.now ≤ counter (tallies_in self.old) g k }
+        ensures { (g : Gfid) → (k : Kind)
+            → counter (tallies_in self.new) g k + weight k g dir slot.now
             ≡ counter (tallies_in self.old) g k }
     {
         self.lower(counted(Kind::Visible, dir, slot), Kind::Visible);

@@ -9,13 +9,14 @@ ghost use Rattle.dht_brick.specs.Dump.{dir_line};
 ghost use Rattle.dht_brick.specs.Saving.{key_above};
 ghost use Rattle.dht_names.specs.Kept.{dirs_in};
 
-use dht_brick::order::is_gfid_above;
+use dht_brick::order::gfids_from;
 use dht_types::bytes::Bytes;
 use dht_types::identifiers::{BrickNo, Gfid};
 use dht_types::lines::DumpLine;
 use dht_types::stored::DirRecord;
 use std::alloc::{AllocError, Global};
 use std::collections::BTreeMap;
+use std::ops::Bound;
 
 /// The same value again.
 pub(crate) fn copied(alloc: Global, value: &Option<Bytes>) -> Result<Option<Bytes>, AllocError>
@@ -77,7 +78,8 @@ impl DirTable {
     /// Takes back what `put` did: a directory has again the record that it had.
     pub(crate) fn put_back(&mut self, dir: Gfid, old: Option<DirRecord>)
         requires { IsSome (get (dirs_in self.old) dir) }
-        ensures { (m : Dirs) → (r : DirRecord) → dirs_in self.old ≡ insert m dir r → old ≡ get m dir → dirs_in self.new ≡ m }
+        ensures { (m : Dirs) → (r : DirRecord) → dirs_in self.old ≡ insert m dir r
+            → old ≡ get m dir → dirs_in self.new ≡ m }
     {
         match old {
             None => self.remove(dir),
@@ -87,7 +89,8 @@ impl DirTable {
 
     /// Gives the record of a directory this attribute, or none.
     pub(crate) fn set_value(&mut self, dir: Gfid, value: Option<Bytes>)
-        ensures { (r : DirRecord) → get (dirs_in self.old) dir ≡ Some r → dirs_in self.new ≡ insert (dirs_in self.old) dir (record r { value = value }) }
+        ensures { (r : DirRecord) → get (dirs_in self.old) dir ≡ Some r
+            → dirs_in self.new ≡ insert (dirs_in self.old) dir (record r { value = value }) }
     {
         let Some(kept) = self.kept.get_mut(&dir) else {
             return;
@@ -117,12 +120,11 @@ impl DirTable {
     pub(crate) fn next(&self, after: Option<Gfid>) -> Option<Gfid>
         ensures { result ≡ key_above (dirs_in self.now) after }
     {
-        for (dir, _) in &self.kept {
-            if is_gfid_above(after, *dir) {
-                return Some(*dir);
-            }
-        }
-        None
+        let (dir, _) = self
+            .kept
+            .range((gfids_from(after), Bound::Unbounded))
+            .next()?;
+        Some(*dir)
     }
 
     /// Appends a line for each record, by the directories' gfids.
@@ -132,7 +134,8 @@ impl DirTable {
         brick: BrickNo,
         out: &mut Vec<DumpLine>,
     ) -> Result<(), AllocError>
-        ensures { OnOk result (out.new.items ≡ out.old.items ++ map (dir_line brick) (entries (dirs_in self.now))) }
+        ensures { OnOk result (out.new.items
+            ≡ out.old.items ++ map (dir_line brick) (entries (dirs_in self.now))) }
     {
         for (dir, record) in &self.kept {
             out.push(DumpLine::Dir(brick, *dir, copied(alloc, &record.value)?))?;

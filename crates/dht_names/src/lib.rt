@@ -1,6 +1,7 @@
 //! The directory records and slots of a brick, in memory.
 #![tactic(auto)]
 
+mod brick_tables;
 mod changes;
 mod counts;
 mod dirs;
@@ -11,4 +12,5 @@ mod saving;
 mod serve;
 mod slot_map;
 mod slots;
-pub mod tables;
+
+pub use brick_tables::Tables;

@@ -11,8 +11,8 @@ ghost use Rattle.dht_brick.specs.declared.requests.NameRequest.{NameRequest};
 ghost use Rattle.dht_names.specs.Kept.{tables_in};
 ghost use Rattle.dht_names.specs.Served.{MeetsRow};
 
+use crate::brick_tables::Tables;
 use crate::dirs::copied;
-use crate::tables::Tables;
 use dht_brick::files::FileRecords;
 use dht_brick::replies::{DirInfo, FileLook, Given, Look, Reply, Why};
 use dht_brick::shapes::Shape;
@@ -54,7 +54,9 @@ impl Tables {
         dir: &DirRecord,
         files: &F,
     ) -> Result<Look, AllocError>
-        ensures { IfOk result (λ l. l ≡ look_of (store_of (tables_in self.now) (F.files files.now)) (entry_at key.now) dir.now) }
+        ensures { IfOk result (λ l. l
+            ≡ look_of (store_of (tables_in self.now) (F.files files.now))
+            (entry_at key.now) dir.now) }
     {
         let parts = self.slots.parts(key);
         let file = match parts.file() {
@@ -75,7 +77,8 @@ impl Tables {
 
     /// What stands at a name of a directory.
     pub(crate) fn look<F: FileRecords>(&self, key: &EntryKey, files: &F) -> Reply
-        ensures { MeetsRow (NameRequest.Look key.now.dir key.now.name) (tables_in self.now) (F.files files.now) result (tables_in self.now) (F.files files.now) }
+        ensures { MeetsRow (NameRequest.Look key.now.dir key.now.name) (tables_in self.now)
+            (F.files files.now) result (tables_in self.now) (F.files files.now) }
     {
         let Some(dir) = self.dirs.get(key.dir) else {
             return Reply::Refused(Why::Nodir);
@@ -88,7 +91,9 @@ impl Tables {
 
     /// Names of a directory above this one, or from the start.
     pub(crate) fn page(&self, dir: Gfid, after: &Option<Name>) -> Reply
-        ensures { (f : Files) → MeetsRow (NameRequest.Page dir after.now) (tables_in self.now) f result (tables_in self.now) f }
+        ensures { (f : Files)
+            → MeetsRow (NameRequest.Page dir after.now) (tables_in self.now) f result
+            (tables_in self.now) f }
     {
         if !self.dirs.contains(dir) {
             return Reply::Refused(Why::Nodir);
@@ -101,7 +106,8 @@ impl Tables {
 
     /// What the brick has of a directory, which has this record.
     fn info(&self, dir: Gfid, kept: &DirRecord) -> Result<DirInfo, AllocError>
-        ensures { (f : Files) → IfOk result (λ i. i ≡ info_of (store_of (tables_in self.now) f) dir kept.now) }
+        ensures { (f : Files)
+            → IfOk result (λ i. i ≡ info_of (store_of (tables_in self.now) f) dir kept.now) }
     {
         Ok(DirInfo {
             place: kept.place,
@@ -113,7 +119,9 @@ impl Tables {
 
     /// What the brick has of a directory.
     pub(crate) fn dirinfo(&self, dir: Gfid) -> Reply
-        ensures { (f : Files) → MeetsRow (NameRequest.Dirinfo dir) (tables_in self.now) f result (tables_in self.now) f }
+        ensures { (f : Files)
+            → MeetsRow (NameRequest.Dirinfo dir) (tables_in self.now) f result
+            (tables_in self.now) f }
     {
         let Some(kept) = self.dirs.get(dir) else {
             return Reply::Refused(Why::Nodir);
@@ -126,7 +134,9 @@ impl Tables {
 
     /// Gives a directory's record this attribute, or none.
     pub(crate) fn set_layout(&mut self, dir: Gfid, value: &Option<Bytes>) -> Reply
-        ensures { (f : Files) → MeetsRow (NameRequest.SetLayout dir value.now) (tables_in self.old) f result (tables_in self.new) f }
+        ensures { (f : Files)
+            → MeetsRow (NameRequest.SetLayout dir value.now) (tables_in self.old) f result
+            (tables_in self.new) f }
     {
         if !self.dirs.contains(dir) {
             return Reply::Refused(Why::Nodir);

@@ -10,8 +10,8 @@ ghost use Rattle.dht_brick.specs.declared.pokes.PokeAt.{PokeAt};
 ghost use Rattle.dht_brick.specs.declared.pokes.PokeFault.{PokeFault};
 ghost use Rattle.dht_names.specs.Kept.{tables_in};
 
+use crate::brick_tables::Tables;
 use crate::kept::KeptMain;
-use crate::tables::Tables;
 use dht_brick::pokes::{PokeAt, PokeFault};
 use dht_types::bytes::Bytes;
 use dht_types::identifiers::Gfid;
@@ -23,7 +23,9 @@ impl Tables {
     /// everything as it was.
     pub fn poke(&mut self, at: &PokeAt, value: &[u8]) -> Result<(), PokeFault>
         requires { IsValue value.now }
-        ensures poked { (f : Files) → PokesTo (poked at.now value.now (store_of (tables_in self.old) f)) (store_of (tables_in self.old) f) result (store_of (tables_in self.new) f) }
+        ensures poked { (f : Files)
+            → PokesTo (poked at.now value.now (store_of (tables_in self.old) f)) (store_of
+            (tables_in self.old) f) result (store_of (tables_in self.new) f) }
         ensures cause { result ≢ Err PokeFault.Failed }
         ensures bricks { (tables_in self.new).bricks ≡ (tables_in self.old).bricks }
     {
@@ -41,7 +43,9 @@ impl Tables {
 
     /// Sets the attribute of a directory.
     fn poke_layout(&mut self, dir: Gfid, value: &[u8]) -> Result<(), PokeFault>
-        ensures poked { (f : Files) → PokesTo (poked (PokeAt.Layout dir) value.now (store_of (tables_in self.old) f)) (store_of (tables_in self.old) f) result (store_of (tables_in self.new) f) }
+        ensures poked { (f : Files)
+            → PokesTo (poked (PokeAt.Layout dir) value.now (store_of (tables_in self.old) f))
+            (store_of (tables_in self.old) f) result (store_of (tables_in self.new) f) }
         ensures cause { result ≢ Err PokeFault.Failed }
         ensures bricks { (tables_in self.new).bricks ≡ (tables_in self.old).bricks }
     {
@@ -57,7 +61,10 @@ impl Tables {
 
     /// Sets the linkto at a name.
     fn poke_linkto(&mut self, key: &EntryKey, value: &[u8]) -> Result<(), PokeFault>
-        ensures poked { (f : Files) → PokesTo (poked (PokeAt.Linkto key.now.dir key.now.name) value.now (store_of (tables_in self.old) f)) (store_of (tables_in self.old) f) result (store_of (tables_in self.new) f) }
+        ensures poked { (f : Files)
+            → PokesTo (poked (PokeAt.Linkto key.now.dir key.now.name) value.now (store_of
+            (tables_in self.old) f)) (store_of (tables_in self.old) f) result (store_of
+            (tables_in self.new) f) }
         ensures cause { result ≢ Err PokeFault.Failed }
         ensures bricks { (tables_in self.new).bricks ≡ (tables_in self.old).bricks }
     {

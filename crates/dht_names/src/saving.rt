@@ -6,8 +6,8 @@ ghost use Rattle.dht_types.specs.declared.saved.Saved.{Saved};
 ghost use Rattle.dht_brick.specs.Saving.{dir_saved, dir_restored, dir_in, IsDirOf};
 ghost use Rattle.dht_names.specs.Kept.{tables_in};
 
+use crate::brick_tables::Tables;
 use crate::dirs::copied;
-use crate::tables::Tables;
 use dht_types::identifiers::Gfid;
 use dht_types::saved::{Saved, SavedDir};
 use dht_types::stored::DirRecord;
@@ -43,7 +43,9 @@ impl Tables {
     /// is given. Where there is no memory for it, nothing changes.
     pub fn restore(&mut self, dir: Gfid, saved: Option<&Saved>) -> Result<(), AllocError>
         requires { IfSome (option_copied saved) (IsDirOf dir) }
-        ensures ok { OnOk result (tables_in self.new ≡ dir_restored dir (option_and_then dir_in (option_copied saved.entry)) (tables_in self.old)) }
+        ensures ok { OnOk result (tables_in self.new
+            ≡ dir_restored dir (option_and_then dir_in (option_copied saved.entry))
+            (tables_in self.old)) }
         ensures err { OnErr result (tables_in self.new ≡ tables_in self.old) }
     {
         match saved {
@@ -58,7 +60,8 @@ impl Tables {
 
     /// Puts a saved record in place of a directory's record and slots.
     pub(crate) fn put_saved(&mut self, dir: Gfid, saved: &SavedDir) -> Result<(), AllocError>
-        ensures ok { OnOk result (tables_in self.new ≡ dir_restored dir (Some saved.now) (tables_in self.old)) }
+        ensures ok { OnOk result (tables_in self.new
+            ≡ dir_restored dir (Some saved.now) (tables_in self.old)) }
         ensures err { OnErr result (tables_in self.new ≡ tables_in self.old) }
     {
         let kept = copied_record(self.alloc, &saved.dir)?;

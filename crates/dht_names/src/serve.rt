@@ -8,7 +8,7 @@ ghost use Rattle.dht_brick.specs.declared.requests.NameRequest.{NameRequest};
 ghost use Rattle.dht_names.specs.Kept.{tables_in};
 ghost use Rattle.dht_names.specs.Served.{MeetsRow, lacks_dir};
 
-use crate::tables::Tables;
+use crate::brick_tables::Tables;
 use dht_brick::files::FileRecords;
 use dht_brick::replies::{Given, Reply, Why};
 use dht_brick::requests::NameRequest;
@@ -28,7 +28,8 @@ impl Tables {
     /// not where the request takes away a linkto or a mark, swaps a name, or settles a readied one.
     pub fn serve<F: FileRecords>(&mut self, request: &NameRequest, files: &mut F) -> Reply
         requires { NameMayBeSent (length (tables_in self.old).bricks) request.now }
-        ensures row { MeetsRow request.now (tables_in self.old) (F.files files.old) result (tables_in self.new) (F.files files.new) }
+        ensures row { MeetsRow request.now (tables_in self.old) (F.files files.old) result
+            (tables_in self.new) (F.files files.new) }
         ensures memory { NameTakesNoMemory request.now → result ≢ Reply.NoMemory }
     {
         if self.lacks_dir(request) {
@@ -51,7 +52,8 @@ impl Tables {
     /// Serves a request, where the directory that it names is there.
     fn serve_there<F: FileRecords>(&mut self, request: &NameRequest, files: &mut F) -> Reply
         requires { lacks_dir (tables_in self.old).dirs request.now ≡ false }
-        ensures row { MeetsRow request.now (tables_in self.old) (F.files files.old) result (tables_in self.new) (F.files files.new) }
+        ensures row { MeetsRow request.now (tables_in self.old) (F.files files.old) result
+            (tables_in self.new) (F.files files.new) }
         ensures memory { NameTakesNoMemory request.now → result ≢ Reply.NoMemory }
     {
         match request {
@@ -89,7 +91,8 @@ impl Tables {
 
     /// Files of this brick above this one, or from the start, that have no links.
     fn orphans<F: FileRecords>(&self, after: Option<Gfid>, files: &F) -> Reply
-        ensures { MeetsRow (NameRequest.Orphans after) (tables_in self.now) (F.files files.now) result (tables_in self.now) (F.files files.now) }
+        ensures { MeetsRow (NameRequest.Orphans after) (tables_in self.now)
+            (F.files files.now) result (tables_in self.now) (F.files files.now) }
     {
         match files.orphans(after, self) {
             Ok(found) => Reply::Ok(Given::Orphans(found)),

@@ -10,10 +10,10 @@ ghost use Rattle.dht_brick.specs.Dump.{slot_line};
 ghost use Rattle.dht_brick.specs.Looks.{page_of};
 ghost use Rattle.dht_brick.specs.Parts.{slot_shown, slots_outside};
 ghost use Rattle.dht_brick.specs.Saving.{slots_saved};
-ghost use Rattle.dht_names.specs.Slots.{slot_of, map_in};
+ghost use Rattle.dht_names.specs.Slots.{slot_of, map_in, start_of};
 
 use crate::kept::KeptSlot;
-use dht_brick::order::{PAGE_SIZE, is_name_above};
+use dht_brick::order::PAGE_SIZE;
 use dht_brick::replies::{Page, PageEntry, SlotShown};
 use dht_types::identifiers::{BrickNo, Gfid};
 use dht_types::lines::DumpLine;
@@ -22,6 +22,20 @@ use dht_types::saved::{SavedSlot, SavedSlots};
 use dht_types::stored::{Slot, Standby};
 use std::alloc::{AllocError, Global};
 use std::collections::BTreeMap;
+use std::ops::Bound;
+
+/// Where the names of a directory above one begin, or all of them.
+fn names_from(dir: Gfid, after: &Option<Name>) -> Bound<EntryKey>
+    ensures { result ≡ start_of dir after.now }
+{
+    match after {
+        None => Bound::Included(EntryKey {
+            dir,
+            name: Name::of(&[]),
+        }),
+        Some(name) => Bound::Excluded(EntryKey { dir, name: *name }),
+    }
+}
 
 /// The slots of a brick, by directory and name. Contracts speak of `map_in`.
 #[derive(Drop)]
@@ -49,14 +63,16 @@ impl SlotMap {
 
     /// What is kept at a key.
     fn get(&self, key: &EntryKey) -> Option<&KeptSlot>
-        ensures { option_map slot_of (option_copied result) ≡ get (map_in self.now) (entry_at key.now) }
+        ensures { option_map slot_of (option_copied result)
+            ≡ get (map_in self.now) (entry_at key.now) }
     {
         self.kept.get(key)
     }
 
     /// Keeps these parts at a key. It takes memory only where there was no slot.
     pub(crate) fn insert(&mut self, key: EntryKey, slot: KeptSlot) -> Result<(), AllocError>
-        ensures ok { OnOk result (map_in self.new ≡ insert (map_in self.old) (entry_at key) (slot_of slot)) }
+        ensures ok { OnOk result (map_in self.new
+            ≡ insert (map_in self.old) (entry_at key) (slot_of slot)) }
         ensures err { OnErr result (map_in self.new ≡ map_in self.old) }
         ensures absent { OnErr result (get (map_in self.old) (entry_at key) ≡ None) }
     {
@@ -130,11 +146,11 @@ impl SlotMap {
         ensures { IfOk result (λ p. p ≡ page_of (map_in self.now) dir after.now) }
     {
         let mut page = Vec::new(alloc);
-        for (key, slot) in &self.kept {
-            if page.len() == PAGE_SIZE {
+        for (key, slot) in self.kept.range((names_from(dir, after), Bound::Unbounded)) {
+            if dir != key.dir || page.len() == PAGE_SIZE {
                 return Ok(Page::new(page));
             }
-            if dir == key.dir && slot.is_visible() && is_name_above(after, &key.name) {
+            if slot.is_visible() {
                 page.push(PageEntry {
                     name: key.name,
                     dir: slot.dir(),
@@ -149,13 +165,14 @@ impl SlotMap {
         ensures { IfOk result (λ s. s ≡ slots_saved (map_in self.now) dir) }
     {
         let mut saved = Vec::new(alloc);
-        for (key, slot) in &self.kept {
-            if dir == key.dir {
-                saved.push(SavedSlot {
-                    name: key.name,
-                    slot: slot.copied(alloc)?,
-                })?;
+        for (key, slot) in self.kept.range((names_from(dir, &None), Bound::Unbounded)) {
+            if dir != key.dir {
+                return Ok(SavedSlots::new(saved));
             }
+            saved.push(SavedSlot {
+                name: key.name,
+                slot: slot.copied(alloc)?,
+            })?;
         }
         Ok(SavedSlots::new(saved))
     }
@@ -166,11 +183,8 @@ impl SlotMap {
         ensures in_dir { IfSome result (λ k. k.dir ≡ dir) }
         ensures none { IfNone result (slots_outside (map_in self.now) dir ≡ map_in self.now) }
     {
-        let first = EntryKey {
-            dir,
-            name: Name::of(&[]),
-        };
-        match self.kept.range(&first..).next() {
+        let all = (names_from(dir, &None), Bound::Unbounded);
+        match self.kept.range(all).next() {
             Some((key, _)) if key.dir == dir => Some(*key),
             _ => None,
         }
@@ -183,7 +197,8 @@ impl SlotMap {
         brick: BrickNo,
         out: &mut Vec<DumpLine>,
     ) -> Result<(), AllocError>
-        ensures { OnOk result (out.new.items ≡ out.old.items ++ map (slot_line brick) (entries (map_in self.now))) }
+        ensures { OnOk result (out.new.items
+            ≡ out.old.items ++ map (slot_line brick) (entries (map_in self.now))) }
     {
         for (key, slot) in &self.kept {
             out.push(DumpLine::Slot(brick, key.dir, key.name, slot.copied(alloc)?))?;

@@ -70,7 +70,8 @@ impl SlotTable {
 
     /// Keeps these parts at a key. Where there is no memory for it, nothing changes.
     fn put(&mut self, key: EntryKey, slot: KeptSlot) -> Result<(), AllocError>
-        ensures ok { OnOk result (slots_in self.new ≡ insert (slots_in self.old) (entry_at key) (slot_of slot)) }
+        ensures ok { OnOk result (slots_in self.new
+            ≡ insert (slots_in self.old) (entry_at key) (slot_of slot)) }
         ensures err { OnErr result (slots_in self.new ≡ slots_in self.old) }
     {
         self.map.len();
@@ -92,7 +93,8 @@ impl SlotTable {
     /// Keeps these parts where there was a slot that counted for each gfid for which they count.
     fn replace(&mut self, key: &EntryKey, slot: KeptSlot)
         requires there { is_bare (slot_in (slots_in self.old) (entry_at key.now)) ≡ false }
-        requires known { Covers key.now.dir (slot_shown (slot_in (slots_in self.old) (entry_at key.now))) (slot_shown (slot_of slot)) }
+        requires known { Covers key.now.dir (slot_shown (slot_in (slots_in self.old)
+            (entry_at key.now))) (slot_shown (slot_of slot)) }
         ensures { slots_in self.new ≡ insert (slots_in self.old) (entry_at key.now) (slot_of slot) }
     {
         self.map.len();
@@ -104,7 +106,8 @@ impl SlotTable {
 
     /// Gives a slot this main part. It takes memory only where there was no slot, or none of its file.
     pub(crate) fn put_main(&mut self, key: &EntryKey, main: KeptMain) -> Result<(), AllocError>
-        ensures ok { OnOk result (slots_in self.new ≡ put_slot (slots_in self.old) (entry_at key.now)
+        ensures ok { OnOk result (slots_in self.new
+            ≡ put_slot (slots_in self.old) (entry_at key.now)
             (with_main (slot_in (slots_in self.old) (entry_at key.now)) (main_of main))) }
         ensures err { OnErr result (slots_in self.new ≡ slots_in self.old) }
     {
@@ -121,7 +124,8 @@ impl SlotTable {
     /// Gives a slot that is there this main part, which is a linkto or the name of the file that has it.
     pub(crate) fn replace_main(&mut self, key: &EntryKey, main: KeptMain)
         requires there { is_bare (slot_in (slots_in self.old) (entry_at key.now)) ≡ false }
-        requires known { keeps_main (slot_in (slots_in self.old) (entry_at key.now)).main (main_of main) ≡ true }
+        requires known { keeps_main (slot_in (slots_in self.old) (entry_at key.now)).main
+            (main_of main) ≡ true }
         ensures { slots_in self.new ≡ put_slot (slots_in self.old) (entry_at key.now)
             (with_main (slot_in (slots_in self.old) (entry_at key.now)) (main_of main)) }
     {
@@ -138,7 +142,9 @@ impl SlotTable {
     /// Gives a name to the file for which it is readied, or whose copy is at it.
     pub(crate) fn settle(&mut self, key: &EntryKey, file: Gfid)
         requires { is_to_be file (slot_in (slots_in self.old) (entry_at key.now)).standby ≡ true }
-        ensures { slots_in self.new ≡ put_slot (slots_in self.old) (entry_at key.now) (with_main bare (Main.File file None)) }
+        ensures { slots_in self.new
+            ≡ put_slot (slots_in self.old) (entry_at key.now) (with_main bare
+            (Main.File file None)) }
     {
         self.replace(
             key,
@@ -180,7 +186,8 @@ impl SlotTable {
 
     /// Gives a slot this standby part. Where there is no memory for it, nothing changes.
     pub(crate) fn put_standby(&mut self, key: &EntryKey, standby: Standby) -> Result<(), AllocError>
-        ensures ok { OnOk result (slots_in self.new ≡ put_slot (slots_in self.old) (entry_at key.now)
+        ensures ok { OnOk result (slots_in self.new
+            ≡ put_slot (slots_in self.old) (entry_at key.now)
             (with_standby (slot_in (slots_in self.old) (entry_at key.now)) standby)) }
         ensures err { OnErr result (slots_in self.new ≡ slots_in self.old) }
     {
@@ -295,7 +302,8 @@ impl SlotTable {
         dir: Gfid,
         saved: &[SavedSlot],
     ) -> Result<SlotTable, AllocError>
-        ensures { IfOk result (λ t. slots_in t ≡ slots_restored dir saved.now (slots_outside (slots_in self.now) dir)) }
+        ensures { IfOk result (λ t. slots_in t
+            ≡ slots_restored dir saved.now (slots_outside (slots_in self.now) dir)) }
     {
         let mut table = self.outside(alloc, dir)?;
         for part in saved.iter().rev() {
@@ -327,7 +335,8 @@ impl SlotTable {
         brick: BrickNo,
         out: &mut Vec<DumpLine>,
     ) -> Result<(), AllocError>
-        ensures { OnOk result (out.new.items ≡ out.old.items ++ map (slot_line brick) (entries (slots_in self.now))) }
+        ensures { OnOk result (out.new.items
+            ≡ out.old.items ++ map (slot_line brick) (entries (slots_in self.now))) }
     {
         self.map.dump(alloc, brick, out)
     }

@@ -63,7 +63,8 @@ impl Opens {
     /// Registers a file as opened by this call of this client. `Sealed` comes exactly where the file
     /// is sealed. A fault leaves everything as it was.
     pub fn register(&mut self, file: Gfid, client: ClientNo, call: CallNo) -> Result<(), OpenFault>
-        ensures { Registers (registration file client call) (opens_in self.old) result (opens_in self.new) }
+        ensures { Registers (registration file client call) (opens_in self.old) result
+            (opens_in self.new) }
     {
         if self.sealed.contains(&file) {
             return Err(OpenFault::Sealed);
@@ -77,7 +78,8 @@ impl Opens {
     /// Takes back the registration of a file by this call of this client, if there is one, and counts
     /// those that the file has left. It takes no memory.
     pub fn unregister(&mut self, file: Gfid, client: ClientNo, call: CallNo) -> u64
-        ensures gone { opens_in self.new ≡ unregistered (opens_in self.old) (registration file client call) }
+        ensures gone { opens_in self.new
+            ≡ unregistered (opens_in self.old) (registration file client call) }
         ensures left { result ≡ registrations (opens_in self.new) file }
     {
         self.registered.remove(&Registration { file, client, call });

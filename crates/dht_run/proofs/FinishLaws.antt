@@ -33,7 +33,7 @@ written_prefix before taken new xs ys n first second = second ∙ (ap (λ t. aft
 pub written_all : (before taken new : Option (List ℕ)) (xs ys : List ℕ) → taken ≡ after_told before xs → new ≡ after_told taken ys → new ≡ after_told before (xs ++ ys)
 written_all before taken new xs ys first second = second ∙ (ap (λ t. after_told t ys) first ∙ after_told-after_told before xs ys)
 
-replays_of : {B C : Type 0} (b : BrickGhosts B) (c : CallerGhosts C) → ((d : C) → c.is_busy d ≡ true → 0 < c.left d) → (w : World B C) (count : ℕ) (text rest : Option (List ℕ)) (events : List Event) (lines : List Line) → Carried b c w count text rest events lines → Replays b.state w.bricks.items text rest events lines
+replays_of : {B C : Type 0} (b : BrickGhosts B) (c : CallerGhosts C) → ((d : C) → c.is_busy d ≡ true → 0 < c.variant d) → (w : World B C) (count : ℕ) (text rest : Option (List ℕ)) (events : List Event) (lines : List Line) → Carried b c w count text rest events lines → Replays b.state w.bricks.items text rest events lines
 replays_of b c goes_on w count text rest events lines h = let fit = h.at.led.fit in record {
   schedule = h.schedule;
   limit = h.limit;
@@ -43,7 +43,7 @@ replays_of b c goes_on w count text rest events lines h = let fit = h.at.led.fit
 }
 
 -- where nothing is written behind the lines
-pub cut_short : {B C : Type 0} (b : BrickGhosts B) (c : CallerGhosts C) → ((d : C) → c.is_busy d ≡ true → 0 < c.left d) → (w : World B C) (text before taken : Option (List ℕ)) → Stopped b c w text before taken → IsCutShort b.state w.bricks.items text before taken
+pub cut_short : {B C : Type 0} (b : BrickGhosts B) (c : CallerGhosts C) → ((d : C) → c.is_busy d ≡ true → 0 < c.variant d) → (w : World B C) (text before taken : Option (List ℕ)) → Stopped b c w text before taken → IsCutShort b.state w.bricks.items text before taken
 cut_short b c goes_on w text before taken h = record {
   events = h.events;
   lines = h.lines;
@@ -55,7 +55,7 @@ cut_short b c goes_on w text before taken h = record {
 }
 
 -- where what stands behind the lines was written in part
-short : {B C : Type 0} (b : BrickGhosts B) (c : CallerGhosts C) → ((d : C) → c.is_busy d ≡ true → 0 < c.left d) → (w : World B C) (count : ℕ) (text rest before taken new : Option (List ℕ)) (events : List Event) (lines : List Line) (last : List ℕ) → Carried b c w count text rest events lines → taken ≡ after_told before (lines_text lines) → MayFollow b.state w.bricks.items events rest last → TakesPrefix taken last new → IsCutShort b.state w.bricks.items text before new
+short : {B C : Type 0} (b : BrickGhosts B) (c : CallerGhosts C) → ((d : C) → c.is_busy d ≡ true → 0 < c.variant d) → (w : World B C) (count : ℕ) (text rest before taken new : Option (List ℕ)) (events : List Event) (lines : List Line) (last : List ℕ) → Carried b c w count text rest events lines → taken ≡ after_told before (lines_text lines) → MayFollow b.state w.bricks.items events rest last → TakesPrefix taken last new → IsCutShort b.state w.bricks.items text before new
 short b c goes_on w count text rest before taken new events lines last h written follows told = record {
   events = events;
   lines = lines;
@@ -67,7 +67,7 @@ short b c goes_on w count text rest before taken new events lines last h written
 }
 
 -- where the dump was written
-pub ends_done : {B C : Type 0} (b : BrickGhosts B) (c : CallerGhosts C) → ((d : C) → c.is_busy d ≡ true → 0 < c.left d) → (w : World B C) (count : ℕ) (text rest before taken new : Option (List ℕ)) → Reached b c w count text rest before taken → IsAtEnd rest → new ≡ after_told taken (dump_lines_text (dump_all b.state w.bricks.items)) → IsDone b.state w.bricks.items text rest before new
+pub ends_done : {B C : Type 0} (b : BrickGhosts B) (c : CallerGhosts C) → ((d : C) → c.is_busy d ≡ true → 0 < c.variant d) → (w : World B C) (count : ℕ) (text rest before taken new : Option (List ℕ)) → Reached b c w count text rest before taken → IsAtEnd rest → new ≡ after_told taken (dump_lines_text (dump_all b.state w.bricks.items)) → IsDone b.state w.bricks.items text rest before new
 ends_done b c goes_on w count text rest before taken new h end told =
     let n = h.carried.counted in
     let some = h.carried.some in
@@ -81,7 +81,7 @@ ends_done b c goes_on w count text rest before taken new h end told =
     }
 
 -- where the number of an invalid line was written
-pub ends_malformed : {B C : Type 0} (b : BrickGhosts B) (c : CallerGhosts C) → ((d : C) → c.is_busy d ≡ true → 0 < c.left d) → (w : World B C) (count : ℕ) (text before taken new : Option (List ℕ)) → ReachedBad b c w count text before taken → new ≡ after_told taken (malformed_text (count + 1)) → StopsAtLine b.state w.bricks.items text before new
+pub ends_malformed : {B C : Type 0} (b : BrickGhosts B) (c : CallerGhosts C) → ((d : C) → c.is_busy d ≡ true → 0 < c.variant d) → (w : World B C) (count : ℕ) (text before taken new : Option (List ℕ)) → ReachedBad b c w count text before taken → new ≡ after_told taken (malformed_text (count + 1)) → StopsAtLine b.state w.bricks.items text before new
 ends_malformed b c goes_on w count text before taken new h told = record {
   events = h.events;
   lines = h.lines;
@@ -108,7 +108,7 @@ some_carried b c w count text rest events lines h none =
     omega arith
 
 -- where all was written that stands behind the lines
-pub ends_whole : {B C : Type 0} (b : BrickGhosts B) (c : CallerGhosts C) → ((d : C) → c.is_busy d ≡ true → 0 < c.left d) → (w : World B C) (count : ℕ) (r : Reader) (text rest before taken new : Option (List ℕ)) (ending : Ending) → EndsSo b c w count r text rest before taken ending → new ≡ after_told taken (last_text b.state w.bricks.items (count + 1) ending) → EndsAs b.state w.bricks.items text rest before new ending
+pub ends_whole : {B C : Type 0} (b : BrickGhosts B) (c : CallerGhosts C) → ((d : C) → c.is_busy d ≡ true → 0 < c.variant d) → (w : World B C) (count : ℕ) (r : Reader) (text rest before taken new : Option (List ℕ)) (ending : Ending) → EndsSo b c w count r text rest before taken ending → new ≡ after_told taken (last_text b.state w.bricks.items (count + 1) ending) → EndsAs b.state w.bricks.items text rest before new ending
 ends_whole b c goes_on w count r text rest before taken new Usage h told = absurd h
 ends_whole b c goes_on w count r text rest before taken new Done h told = ends_done b c goes_on w count text rest before taken new h.0 h.1 told
 ends_whole b c goes_on w count r text rest before taken new Malformed h told = ends_malformed b c goes_on w count text before taken new h told
@@ -124,7 +124,7 @@ ends_whole b c goes_on w count r text rest before taken new SourceFailed h told 
 })
 
 -- where a prefix of it was written
-pub ends_in_part : {B C : Type 0} (b : BrickGhosts B) (c : CallerGhosts C) → ((d : C) → c.is_busy d ≡ true → 0 < c.left d) → (w : World B C) (count : ℕ) (r : Reader) (text rest before taken new : Option (List ℕ)) (ending : Ending) → EndsSo b c w count r text rest before taken ending → TakesPrefix taken (last_text b.state w.bricks.items (count + 1) ending) new → IsCutShort b.state w.bricks.items text before new
+pub ends_in_part : {B C : Type 0} (b : BrickGhosts B) (c : CallerGhosts C) → ((d : C) → c.is_busy d ≡ true → 0 < c.variant d) → (w : World B C) (count : ℕ) (r : Reader) (text rest before taken new : Option (List ℕ)) (ending : Ending) → EndsSo b c w count r text rest before taken ending → TakesPrefix taken (last_text b.state w.bricks.items (count + 1) ending) new → IsCutShort b.state w.bricks.items text before new
 ends_in_part b c goes_on w count r text rest before taken new Usage h told = absurd h
 ends_in_part b c goes_on w count r text rest before taken new Done h told = (let p = h.0 in
     let some = some_carried b c w count text rest p.events p.lines p.carried in

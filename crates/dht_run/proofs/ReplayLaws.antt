@@ -9,7 +9,8 @@ use Rattle.dht_types.specs.declared.events.Event.{Event}
 use Rattle.dht_types.specs.declared.events.Event.TheVariants.{Volume, Call, Step}
 use Rattle.dht_types.specs.declared.lines.Line.{Line}
 use Rattle.dht_sched.specs.Schedule.{schedule_text, IsScheduled, IsOneLine}
-use Rattle.dht_section.proofs.KeptLaws.{nat_cases, placed_of}
+use Rattle.dht_section.proofs.EarlyLaws.{nat_cases}
+use Rattle.dht_invariant.proofs.StandsLaws.{stands_of, placed_of}
 use Rattle.dht_sched.specs.Transcript.{line_text, lines_text}
 use Rattle.dht_world.specs.Bricks.{disk_of, journals_of}
 use Rattle.dht_world.specs.Following.{ComesFrom, Block}
@@ -111,13 +112,13 @@ misplaced events e input (Some more) one s not only eq = subst (λ (o : Option (
     may_scheduled (x ∷ xs) o h = h.0
 
 -- the transcript so far is one
-pub transcript_of : {B C : Type 0} (b : BrickGhosts B) (c : CallerGhosts C) → ((d : C) → c.is_busy d ≡ true → 0 < c.left d) → (w : World B C) (events : List Event) (lines : List Line) → IsAt b c w lines → ComesFrom start 1 events lines → IsTranscript events lines (disk_of b.state w.bricks.items) (journals_of b.state w.bricks.items)
+pub transcript_of : {B C : Type 0} (b : BrickGhosts B) (c : CallerGhosts C) → ((d : C) → c.is_busy d ≡ true → 0 < c.variant d) → (w : World B C) (events : List Event) (lines : List Line) → IsAt b c w lines → ComesFrom start 1 events lines → IsTranscript events lines (disk_of b.state w.bricks.items) (journals_of b.state w.bricks.items)
 transcript_of b c goes_on w events lines at comes = record {
   legal = at.led.legal;
   follows = comes;
   logged = at.led.fit.logged;
-  stands = λ some. at.led.fit.kept.stands;
-  placed = λ e f h. placed_of (disk_of b.state w.bricks.items) (history_of lines) e f at.led.fit.kept h;
+  stands = λ some. stands_of (disk_of b.state w.bricks.items) (history_of lines) at.led.fit.kept at.led.fit.early;
+  placed = λ e f h. placed_of (disk_of b.state w.bricks.items) (history_of lines) e f at.led.fit.kept at.led.fit.early h;
   in_time = at.led.in_time;
   answers = λ i r e. elim (nat_cases i 0) [
     | inl q ↦ by (c.is_busy w.client) refl at.led.fit.own r (ap (history_of lines).pending (sym q) ∙ e)

@@ -27,16 +27,16 @@ pub record HasNoLine (cut : ℕ) (input : List ℕ) : Type 0 where
   pub no_line : (line rest : List ℕ) → input ≡ line ++ 10 ∷ rest → HasNoNewline line → ¬ IsWithinLimits cut (length line)
 
 -- a line was cut off the input
-pub record CutsLine (old new : Reader) (left_before left_after : Option (List ℕ)) : Type 0 where
+pub record CutsLine (old new : Reader) (variant_before left_after : Option (List ℕ)) : Type 0 where
   pub no_newline : HasNoNewline new.line
-  pub prefix : input_of old left_before ≡ before_told (new.line ++ 10 ∷ []) (input_of new left_after)
+  pub prefix : input_of old variant_before ≡ before_told (new.line ++ 10 ∷ []) (input_of new left_after)
   pub counted : new.cut ≡ old.cut + length new.line + 1
   pub within : IsWithinLimits old.cut (length new.line)
 
 -- nothing was cut off the input
-pub record CutsNothing (old new : Reader) (left_before left_after : Option (List ℕ)) : Type 0 where
+pub record CutsNothing (old new : Reader) (variant_before left_after : Option (List ℕ)) : Type 0 where
   pub line : new.line ≡ []
-  pub input : input_of new left_after ≡ input_of old left_before
+  pub input : input_of new left_after ≡ input_of old variant_before
   pub counted : new.cut ≡ old.cut
 
 -- the first newline stands at this place
@@ -50,8 +50,8 @@ abbrev pub IsFull : Reader → Type 0
 IsFull r = (0 < length r.pending) × ((LINE_LIMIT ≤ length r.pending) ⊎ (INPUT_LIMIT ≤ r.cut + length r.pending))
 
 -- this many bytes of the source were added to those that are held
-pub record Adds (old new : Reader) (n : ℕ) (left_before left_after : Option (List ℕ)) : Type 0 where
+pub record Adds (old new : Reader) (n : ℕ) (variant_before left_after : Option (List ℕ)) : Type 0 where
   pub added : List ℕ
   pub many : length added ≡ n
   pub held : new.pending ≡ old.pending ++ added
-  pub given : left_before ≡ before_told added left_after
+  pub given : variant_before ≡ before_told added left_after

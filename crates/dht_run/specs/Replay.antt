@@ -13,7 +13,8 @@ use Rattle.dht_types.specs.declared.lines.DumpLine.TheVariants.{End}
 use Rattle.dht_brick.specs.Bricks.{BrickState}
 use Rattle.dht_brick.specs.Dump.{dump_of}
 use Rattle.dht_brick.specs.declared.journal.JournalEntry.{JournalEntry}
-use Rattle.dht_section.specs.Scene.{Disk, Stands, Placed}
+use Rattle.dht_section.specs.Disk.{Disk}
+use Rattle.dht_section.specs.Truth.{Stands, Placed}
 use Rattle.dht_sched.specs.Schedule.{schedule_text, IsScheduled}
 use Rattle.dht_sched.specs.Transcript.{lines_text, dump_lines_text, malformed_text}
 use Rattle.dht_world.specs.Bricks.{disk_of, journals_of, Logged, AreReady}

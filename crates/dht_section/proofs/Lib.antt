@@ -1,5 +1,4 @@
 pub mod ContentsLaws
-pub mod KeptLaws
-pub mod MovedLaws
+pub mod EarlyLaws
 pub mod SceneLaws
 pub mod SectionSteps

@@ -29,7 +29,8 @@ use Rattle.dht_brick.specs.declared.replies.Reply.{Reply}
 use Rattle.dht_brick.specs.declared.replies.Reply.TheVariants.{Ok as Carried, Refused as Declined, Wait, Down, Failed, NoMemory}
 use Rattle.dht_section.specs.declared.machine.Ask.{Ask}
 use Rattle.dht_section.specs.Replies.{is_no_memory}
-use Rattle.dht_section.specs.Scene.{Scene, Sound, Moved, lock_at, slot_at, range_of, range_at, step_of, deeds_by, outcome_of}
+use Rattle.dht_section.specs.Disk.{lock_at, slot_at, range_of, range_at}
+use Rattle.dht_section.specs.Scene.{Scene, Sound, Guarantee, step_of, deeds_by, outcome_of}
 
 put_off : {K A : Type 0} (same : K → K → Bool) (f : K → A) (k : K) (v : A) (m : K) → same m k ≡ false → put same f k v m ≡ f m
 unfolding put
@@ -54,7 +55,7 @@ IsQuiet (OnNames q) = IsQuietName q
 IsQuiet q = ⊥
 
 -- what a part of the contents leaves of the whole
-within_keeps : {A X : Type 0} (g : Contents → X) (whole : A → Contents) (o : Outcome A) (c : Contents) → ((a : A) → g (whole a) ≡ g c) → g (left_by (within whole o) c) ≡ g c
+pub within_keeps : {A X : Type 0} (g : Contents → X) (whole : A → Contents) (o : Outcome A) (c : Contents) → ((a : A) → g (whole a) ≡ g c) → g (left_by (within whole o) c) ≡ g c
 within_keeps g whole (Do given new) c h = h new
 within_keeps g whole (Refuse why) c h = refl
 within_keeps g whole (Await holder) c h = refl
@@ -103,27 +104,27 @@ served_row o old Down new e h = absurd h
 served_row o old Failed new e h = absurd h
 served_row o old NoMemory new e h = absurd (let k : true ≡ false = e in cc)
 
-pub row_reply : (s t : Scene) (a : Ask) (r : Reply) → Moved s a r t → is_no_memory r ≡ false → r ≡ reply_in (outcome_of s a)
+pub row_reply : (s t : Scene) (a : Ask) (r : Reply) → Guarantee s a r t → is_no_memory r ≡ false → r ≡ reply_in (outcome_of s a)
 row_reply s t a r m e = (served_row (outcome_of s a) (s.disk.brick a.brick.0) r m.new e m.served).0
 
 -- what one request keeps on its brick, it keeps on all
-pub brick_keeps : {X : Type 0} (g : Contents → X) (s t : Scene) (a : Ask) (r : Reply) → Moved s a r t → g (left_by (outcome_of s a) (s.disk.brick a.brick.0)) ≡ g (s.disk.brick a.brick.0) → (i : ℕ) → g (t.disk.brick i) ≡ g (s.disk.brick i)
+pub brick_keeps : {X : Type 0} (g : Contents → X) (s t : Scene) (a : Ask) (r : Reply) → Guarantee s a r t → g (left_by (outcome_of s a) (s.disk.brick a.brick.0)) ≡ g (s.disk.brick a.brick.0) → (i : ℕ) → g (t.disk.brick i) ≡ g (s.disk.brick i)
 brick_keeps g s t a r m e i =
     ap (λ (f : ℕ → Contents). g (f i)) m.disk.brick
     ∙ put_keeps g nat_eq exact_nat s.disk.brick a.brick.0 m.new (served_keeps g (outcome_of s a) (s.disk.brick a.brick.0) r m.new e m.served) i
 
 -- a quiet request leaves what bricks store
-pub store_moved : (s t : Scene) (a : Ask) (r : Reply) → Moved s a r t → IsQuiet a.request → (b : ℕ) → (t.disk.brick b).store ≡ (s.disk.brick b).store
+pub store_moved : (s t : Scene) (a : Ask) (r : Reply) → Guarantee s a r t → IsQuiet a.request → (b : ℕ) → (t.disk.brick b).store ≡ (s.disk.brick b).store
 store_moved s t a r m h b = brick_keeps (λ (c : Contents). c.store) s t a r m (after_store _ s.who s.mine.number a.request (s.disk.brick a.brick.0) h) b
 
-pub slot_moved : (s t : Scene) (a : Ask) (r : Reply) → Moved s a r t → IsQuiet a.request → (e : Entry) (b : ℕ) → slot_at t.disk b e ≡ slot_at s.disk b e
+pub slot_moved : (s t : Scene) (a : Ask) (r : Reply) → Guarantee s a r t → IsQuiet a.request → (e : Entry) (b : ℕ) → slot_at t.disk b e ≡ slot_at s.disk b e
 slot_moved s t a r m h e b = ap (λ (x : Store). Rattle.dht_brick.specs.Contents.slot x e) (store_moved s t a r m h b)
 
-pub ranges_moved : (s t : Scene) (a : Ask) (r : Reply) → Moved s a r t → IsQuiet a.request → (g : Gfid) (b : ℕ) → range_at t.disk g b ≡ range_at s.disk g b
+pub ranges_moved : (s t : Scene) (a : Ask) (r : Reply) → Guarantee s a r t → IsQuiet a.request → (g : Gfid) (b : ℕ) → range_at t.disk g b ≡ range_at s.disk g b
 ranges_moved s t a r m h g b = ap (λ (x : Store). range_of (Rattle.dht_brick.specs.Contents.dir x g)) (store_moved s t a r m h b)
 
 -- a lock of mine that my request leaves is held as it was
-pub lock_moved : (s t : Scene) (a : Ask) (r : Reply) → Moved s a r t → (g : Gfid) (k : Key) (o : Option Mode) → Leaves a.request k → lock_at s.disk g k s.who ≡ o → lock_at t.disk g k t.who ≡ o
+pub lock_moved : (s t : Scene) (a : Ask) (r : Reply) → Guarantee s a r t → (g : Gfid) (k : Key) (o : Option Mode) → Leaves a.request k → lock_at s.disk g k s.who ≡ o → lock_at t.disk g k t.who ≡ o
 lock_moved s t a r m g k o l h =
     ap (λ (c : ClientNo). lock_at t.disk g k c) m.who
     ∙ (ap (λ (n : ℕ). (t.disk.brick (anchor g n)).locks k s.who.0) m.disk.count
@@ -142,10 +143,10 @@ nobody_else holds client asked other none = by (nat_eq other client) refl
 granted : (s : Scene) (b : ℕ) (key : Key) (mode : Mode) → Sound s → lock_row s.who key mode (s.disk.brick b).locks ≡ Do given.Nothing (held (s.disk.brick b).locks key s.who.0 (Some mode))
 granted s b key mode sound =
     free_locks_are_granted s.who key mode (s.disk.brick b).locks
-    (λ other below. nobody_else ((s.disk.brick b).locks key) s.who.0 mode other (λ ne. sound.kept.sole b other key (λ e. ne (e ∙ sym sound.first))))
+    (λ other below. nobody_else ((s.disk.brick b).locks key) s.who.0 mode other (λ ne. sound.early.sole b other key (λ e. ne (e ∙ sym sound.first))))
 
 -- a lock that was asked for, and not refused because memory ran out, is held
-pub lock_taken : (s t : Scene) (b : ℕ) (g : Gfid) (key : Key) (mode : Mode) (r : Reply) → Sound s → b ≡ anchor g s.disk.count → is_no_memory r ≡ false → Moved s (record { brick = record { 0 = b }; request = Lock key mode }) r t → lock_at t.disk g key t.who ≡ Some mode
+pub lock_taken : (s t : Scene) (b : ℕ) (g : Gfid) (key : Key) (mode : Mode) (r : Reply) → Sound s → b ≡ anchor g s.disk.count → is_no_memory r ≡ false → Guarantee s (record { brick = record { 0 = b }; request = Lock key mode }) r t → lock_at t.disk g key t.who ≡ Some mode
 lock_taken s t b g key mode r sound e n m =
     let c = s.disk.brick b in
     let new = (served_row (outcome_of s (record { brick = record { 0 = b }; request = Lock key mode })) c r m.new n m.served).1 ∙ ap (λ (o : Outcome Locks). left_by (within (with_locks c) o) c) (granted s b key mode sound) in
@@ -166,5 +167,5 @@ no_step (OnNames (Dirinfo d)) (Carried given) h = refl
 no_step q (Carried given) h = absurd h
 no_step q r h = refl
 
-pub deeds_quiet : (s t : Scene) (a : Ask) (r : Reply) → IsQuiet a.request → Moved s a r t → t.mine.deeds ≡ s.mine.deeds
+pub deeds_quiet : (s t : Scene) (a : Ask) (r : Reply) → IsQuiet a.request → Guarantee s a r t → t.mine.deeds ≡ s.mine.deeds
 deeds_quiet s t a r q m = m.deeds ∙ ap (λ (o : Option TreeStep). deeds_by s t.history.size o) (no_step a.request r q)

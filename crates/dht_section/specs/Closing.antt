@@ -8,7 +8,7 @@ use Rattle.dht_section.specs.declared.machine.Ask.{Ask}
 use Rattle.dht_section.specs.declared.machine.Finish.{Finish}
 use Rattle.dht_section.specs.declared.machine.Turn.{Turn}
 use Rattle.dht_section.specs.Turns.{MatchTurn}
-use Rattle.dht_section.specs.Scene.{Scene, Earned}
+use Rattle.dht_section.specs.Scene.{Scene, MayAnswer}
 use Rattle.dht_section.specs.Section.{HasPlace, lock_brick, directory_key, name_key, both_locks}
 use Rattle.dht_section.specs.declared.section.Location.{Location}
 use Rattle.dht_section.specs.declared.closing.Closing.{Closing}
@@ -23,9 +23,9 @@ closing_asks (UnlockingName l f) = record { brick = record { 0 = lock_brick l };
 closing_asks (UnlockingDirectory l f) = record { brick = record { 0 = lock_brick l }; request = Unlock (directory_key l) }
 
 -- how many requests it still sends
-abbrev pub closing_left : Closing → ℕ
-closing_left (UnlockingName l f) = 2
-closing_left (UnlockingDirectory l f) = 1
+abbrev pub closing_variant : Closing → ℕ
+closing_variant (UnlockingName l f) = 2
+closing_variant (UnlockingDirectory l f) = 1
 
 -- the locks that it gives back, in order
 abbrev pub closing_locks : Closing → List Key
@@ -44,7 +44,7 @@ closing_finish (UnlockingDirectory l f) = f
 -- the answer is right already
 pub record ClosingKnows (c : Closing) (s : Scene) : Type 0 where
   pub place : HasPlace (closing_location c) s
-  pub earned : Earned (closing_finish c) s
+  pub earned : MayAnswer (closing_finish c) s
 
 -- it goes on with the same answer, or gives it
 abbrev pub KeepsFinish : Closing → Turn Closing Finish → Type 0

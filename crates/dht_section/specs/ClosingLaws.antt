@@ -1,6 +1,6 @@
 -- The laws of the closing as a machine.
-use Rattle.dht_section.specs.Scene.{Scene, Sound, Permitted, Others}
-use Rattle.dht_section.specs.EarnedLaws.{earned_stable}
+use Rattle.dht_section.specs.Scene.{Scene, Sound, Permitted, Rely}
+use Rattle.dht_section.specs.MayAnswerLaws.{may_answer_stable}
 use Rattle.dht_section.specs.SectionLaws.{lock_brick_is, lock_brick_within, place_stable}
 use Rattle.dht_section.specs.Closing.{closing_asks, closing_location, closing_finish, ClosingKnows}
 use Rattle.dht_section.specs.declared.closing.Closing.{Closing}
@@ -10,5 +10,5 @@ pub closing_permitted : (m : Closing) (s : Scene) → Sound s → ClosingKnows m
 closing_permitted (UnlockingName l f) s sound h = record { there = lock_brick_within l s sound h.place; may = lock_brick_is l s sound h.place }
 closing_permitted (UnlockingDirectory l f) s sound h = record { there = lock_brick_within l s sound h.place; may = lock_brick_is l s sound h.place }
 
-pub closing_stable : (m : Closing) (s t : Scene) → ClosingKnows m s → Others s t → ClosingKnows m t
-closing_stable m s t h o = record { place = place_stable (closing_location m) s t h.place o; earned = earned_stable (closing_finish m) s t h.earned o }
+pub closing_stable : (m : Closing) (s t : Scene) → ClosingKnows m s → Rely s t → ClosingKnows m t
+closing_stable m s t h o = record { place = place_stable (closing_location m) s t h.place o; earned = may_answer_stable (closing_finish m) s t h.earned o }

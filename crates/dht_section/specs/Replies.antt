@@ -5,7 +5,7 @@ use Rattle.dht_xattr.specs.declared.range.Range.{Range}
 use Rattle.dht_brick.specs.declared.replies.Given.TheVariants.{Look, Dirinfo}
 use Rattle.dht_brick.specs.declared.replies.Reply.{Reply}
 use Rattle.dht_brick.specs.declared.replies.Reply.TheVariants.{Ok as Carried, NoMemory}
-use Rattle.dht_section.specs.Scene.{file_in, range_of_value}
+use Rattle.dht_section.specs.Disk.{file_in, range_of_value}
 
 -- the brick had no memory for the request
 abbrev pub is_no_memory : Reply → Bool

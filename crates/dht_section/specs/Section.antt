@@ -18,7 +18,8 @@ use Rattle.dht_section.specs.declared.machine.Ask.{Ask}
 use Rattle.dht_section.specs.declared.machine.Turn.{Turn}
 use Rattle.dht_section.specs.Turns.{MatchTurn}
 use Rattle.dht_section.specs.Replies.{is_no_memory, file_shown, range_shown}
-use Rattle.dht_section.specs.Scene.{Disk, name_at, lock_at, ranges_below, layout_of, Scene}
+use Rattle.dht_section.specs.Disk.{Disk, name_at, lock_at, ranges_below, layout_of}
+use Rattle.dht_section.specs.Scene.{Scene}
 use Rattle.dht_section.specs.declared.section.Location.{Location}
 use Rattle.dht_section.specs.declared.section.Place.{Place}
 use Rattle.dht_section.specs.declared.section.Seen.{Seen}
@@ -57,10 +58,10 @@ section_location (LockingName l) = l
 section_location (Looking l b x) = l
 
 -- how many requests it still sends
-abbrev pub section_left : Section → ℕ
-section_left (LockingDirectory l) = l.bricks + 2
-section_left (LockingName l) = l.bricks + 1
-section_left (Looking l b x) = l.bricks - b.0
+abbrev pub section_variant : Section → ℕ
+section_variant (LockingDirectory l) = l.bricks + 2
+section_variant (LockingName l) = l.bricks + 1
+section_variant (Looking l b x) = l.bricks - b.0
 
 -- the locks that were asked for and not given back, the last first
 abbrev pub both_locks : Location → List Key

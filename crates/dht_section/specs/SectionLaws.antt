@@ -9,7 +9,8 @@ use Rattle.dht_types.specs.declared.identifiers.Gfid.{Gfid}
 use Rattle.dht_types.specs.declared.locks.Key.{Key}
 use Rattle.dht_types.specs.declared.locks.Mode.{Mode}
 use Rattle.dht_types.specs.declared.locks.Mode.TheVariants.{Shared, Exclusive}
-use Rattle.dht_section.specs.Scene.{Disk, file_in, slot_at, lock_at, range_at, ranges_below, layout_of, Scene, Sound, Permitted, Others}
+use Rattle.dht_section.specs.Disk.{Disk, file_in, slot_at, lock_at, range_at, ranges_below, layout_of}
+use Rattle.dht_section.specs.Scene.{Scene, Sound, Permitted, Rely}
 use Rattle.dht_section.specs.Section.{entry_at, directory_key, name_key, lock_brick, section_asks, SectionKnows, Truth, HasPlace, IsFresh, Locked, SawAt, HoldsName}
 use Rattle.dht_section.specs.declared.section.Location.{Location}
 use Rattle.dht_section.specs.declared.section.Place.{Place}
@@ -26,7 +27,7 @@ below_same d e g (suc n) h = ap (λ xs. xs ++ range_at e g n ∷ []) (below_same
 pub layout_same : (d e : Disk) (g : Gfid) → e.count ≡ d.count → ((b : ℕ) → range_at e g b ≡ range_at d g b) → layout_of e g ≡ layout_of d g
 layout_same d e g c h = ap (ranges_below e g) c ∙ below_same d e g d.count h
 
-pub layout_stable : (s t : Scene) (g : Gfid) → Others s t → layout_of t.disk g ≡ layout_of s.disk g
+pub layout_stable : (s t : Scene) (g : Gfid) → Rely s t → layout_of t.disk g ≡ layout_of s.disk g
 layout_stable s t g o = layout_same s.disk t.disk g o.count (o.ranges g)
 
 lock_brick_at : (l : Location) (n : ℕ) → 0 < n → n ≡ l.bricks → lock_brick l ≡ anchor l.directory n
@@ -57,16 +58,16 @@ section_permitted (Looking l b x) s sound h = record {
   may = tt;
 }
 
-pub place_stable : (l : Location) (s t : Scene) → HasPlace l s → Others s t → HasPlace l t
+pub place_stable : (l : Location) (s t : Scene) → HasPlace l s → Rely s t → HasPlace l t
 place_stable l s t h o = record { bricks = ap length o.weights ∙ h.bricks; root = h.root }
 
-pub fresh_stable : (l : Location) (s t : Scene) → IsFresh l s → Others s t → IsFresh l t
+pub fresh_stable : (l : Location) (s t : Scene) → IsFresh l s → Rely s t → IsFresh l t
 fresh_stable l s t h o = record { place = place_stable l s t h.place o; deeds = ap (λ (r : PendingCall). r.deeds) o.mine ∙ h.deeds }
 
-lock_stable : (s t : Scene) (g : Gfid) (k : Key) (mode : Mode) → lock_at s.disk g k s.who ≡ Some mode → Others s t → lock_at t.disk g k t.who ≡ Some mode
+lock_stable : (s t : Scene) (g : Gfid) (k : Key) (mode : Mode) → lock_at s.disk g k s.who ≡ Some mode → Rely s t → lock_at t.disk g k t.who ≡ Some mode
 lock_stable s t g k mode h o = ap (λ c. lock_at t.disk g k c) o.who ∙ o.locks g k mode h
 
-pub locked_stable : (l : Location) (s t : Scene) → Locked l s → Others s t → Locked l t
+pub locked_stable : (l : Location) (s t : Scene) → Locked l s → Rely s t → Locked l t
 locked_stable l s t h o = record { directory = lock_stable s t l.directory (directory_key l) Shared h.directory o; name = lock_stable s t l.directory (name_key l) Exclusive h.name o }
 
 -- the same slots at a name, the same truth
@@ -74,10 +75,10 @@ pub truth_kept : (d e : Disk) (x : Entry) (limit : ℕ) (found : Option Place) �
 truth_kept d e x limit None c h t = λ b l. ap file_in (h b) ∙ t b l
 truth_kept d e x limit (Some p) c h t = (let l = t.0 in omega arith, ap file_in (h p.brick.0) ∙ t.1)
 
-pub truth_stable : (l : Location) (limit : ℕ) (found : Option Place) (s t : Scene) → Locked l s → Truth s.disk (entry_at l) limit found → Others s t → Truth t.disk (entry_at l) limit found
+pub truth_stable : (l : Location) (limit : ℕ) (found : Option Place) (s t : Scene) → Locked l s → Truth s.disk (entry_at l) limit found → Rely s t → Truth t.disk (entry_at l) limit found
 truth_stable l limit found s t k h o = truth_kept s.disk t.disk (entry_at l) limit found o.count (o.slots l.directory l.name k.name) h
 
-saw_stable : (l : Location) (found : Option Place) (at : ℕ) (s t : Scene) → SawAt l found at s → Others s t → SawAt l found at t
+saw_stable : (l : Location) (found : Option Place) (at : ℕ) (s t : Scene) → SawAt l found at s → Rely s t → SawAt l found at t
 saw_stable l found at s t h o =
     let later = o.later in
     let before = h.before in
@@ -88,7 +89,7 @@ saw_stable l found at s t h o =
       node = ap (λ (p : Tree). p.names (entry_at l)) (o.past at h.before) ∙ h.node;
     }
 
-pub section_stable : (m : Section) (s t : Scene) → SectionKnows m s → Others s t → SectionKnows m t
+pub section_stable : (m : Section) (s t : Scene) → SectionKnows m s → Rely s t → SectionKnows m t
 section_stable (LockingDirectory l) s t h o = fresh_stable l s t h o
 section_stable (LockingName l) s t h o = record { fresh = fresh_stable l s t h.fresh o; directory = lock_stable s t l.directory (directory_key l) Shared h.directory o }
 section_stable (Looking l b x) s t h o = record {
@@ -100,7 +101,7 @@ section_stable (Looking l b x) s t h o = record {
 }
 
 -- a held name stays as it is, whatever others do
-pub held_stable : (h : Held) (s t : Scene) → HoldsName h s → Others s t → HoldsName h t
+pub held_stable : (h : Held) (s t : Scene) → HoldsName h s → Rely s t → HoldsName h t
 held_stable h s t k o = record {
   fresh = fresh_stable h.location s t k.fresh o;
   locked = locked_stable h.location s t k.locked o;

@@ -4,7 +4,7 @@ ghost use Rattle.std.specs.Prelude.{◌≡◌, ◌<◌, ◌≤◌, ℕ, Bool, tr
 ghost use Rattle.dht_types.specs.Cost.{cost};
 ghost use Rattle.dht_types.specs.declared.identifiers.ClientNo.{ClientNo};
 ghost use Rattle.dht_section.specs.declared.machine.Ask.{Ask};
-ghost use Rattle.dht_section.specs.Scene.{Scene, Sound, Permitted, Others};
+ghost use Rattle.dht_section.specs.Scene.{Scene, Sound, Permitted, Rely};
 ghost use Rattle.dht_section.specs.Turns.{CallMoves};
 ghost use Rattle.dht_section.specs.Begins.{Begins};
 ghost use Rattle.dht_types.specs.Calls.{IsInRoot};
@@ -30,7 +30,7 @@ pub trait Caller: Sized {
     ghost knows: { Self → Scene → Type 0 };
 
     /// How many requests its call still sends at most.
-    ghost left: { Self → ℕ };
+    ghost variant: { Self → ℕ };
 
     /// Whether no call of it is running.
     fn is_idle(&self) -> bool
@@ -45,7 +45,7 @@ pub trait Caller: Sized {
         ensures number { number self.new ≡ number self.old }
         ensures knows { (s : Scene) → Begins (number self.old) weights.now run call what.now s
             → knows self.new s }
-        ensures left { left self.new ≤ cost (length weights.now) what.now };
+        ensures variant { variant self.new ≤ cost (length weights.now) what.now };
 
     /// The request that its call sends next.
     fn next(&self) -> Ask
@@ -57,15 +57,15 @@ pub trait Caller: Sized {
     fn take(&mut self, reply: Reply, at: u64) -> Option<Finish>
         requires { is_busy self.old ≡ true }
         ensures number { number self.new ≡ number self.old }
-        ensures moves { CallMoves is_busy asks knows left self.old self.new reply at result };
+        ensures moves { CallMoves is_busy asks knows variant self.old self.new reply at result };
 
     /// Its call may send its request in every sound scene of which its knowledge holds.
     ghost permitted: { (c : Self) (s : Scene) → Sound s → is_busy c ≡ true → knows c s
         → Permitted s (asks c) };
 
     /// What others may do leaves its knowledge true.
-    ghost stable: { (c : Self) (s t : Scene) → knows c s → Others s t → knows c t };
+    ghost stable: { (c : Self) (s t : Scene) → knows c s → Rely s t → knows c t };
 
     /// A running call sends another request.
-    ghost goes_on: { (c : Self) → is_busy c ≡ true → 0 < left c };
+    ghost goes_on: { (c : Self) → is_busy c ≡ true → 0 < variant c };
 }

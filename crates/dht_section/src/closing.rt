@@ -1,10 +1,10 @@
 //! The closing: the end of a call that took locks. They are given back, and then the call answers.
 
 ghost use Rattle.std.specs.Prelude.{◌≡◌, ◌<◌, ℕ, [], None};
-ghost use Rattle.dht_section.specs.Scene.{Scene, Earned};
+ghost use Rattle.dht_section.specs.Scene.{Scene, MayAnswer};
 ghost use Rattle.dht_section.specs.Turns.{Moves};
 ghost use Rattle.dht_section.specs.Section.{lock_brick, LocksFollow, stopped_locks, stopped_location, both_locks, HasPlace};
-ghost use Rattle.dht_section.specs.Closing.{closing_asks, closing_left, closing_locks, closing_finish, ClosingKnows, KeepsFinish, out_of_memory};
+ghost use Rattle.dht_section.specs.Closing.{closing_asks, closing_variant, closing_locks, closing_finish, ClosingKnows, KeepsFinish, out_of_memory};
 ghost use Rattle.dht_section.specs.ClosingLaws.{closing_permitted, closing_stable};
 
 use super::machine::{Ask, Finish, Machine, Turn};
@@ -37,7 +37,7 @@ pub fn out_of_memory() -> Finish
 impl Closing {
     /// Gives both locks back, and answers so.
     pub fn new(location: Location, finish: Finish) -> Closing
-        ensures knows { (s : Scene) → HasPlace location s → Earned finish s
+        ensures knows { (s : Scene) → HasPlace location s → MayAnswer finish s
             → ClosingKnows result s }
         ensures finish { closing_finish result ≡ finish }
         ensures locks { closing_locks result ≡ both_locks location }
@@ -68,9 +68,9 @@ impl Machine for Closing {
 
     ghost knows = { ClosingKnows };
 
-    ghost left = { closing_left };
+    ghost variant = { closing_variant };
 
-    ghost earned = { Earned };
+    ghost earned = { MayAnswer };
 
     fn next(&self) -> Ask {
         match self {
@@ -86,7 +86,8 @@ impl Machine for Closing {
     }
 
     fn take(self, reply: Reply, at: u64) -> Turn<Closing, Finish>
-        ensures moves { Moves closing_asks ClosingKnows closing_left Earned self reply at result }
+        ensures moves { Moves closing_asks ClosingKnows closing_variant MayAnswer
+            self reply at result }
         ensures finish { KeepsFinish self result }
         ensures locks { LocksFollow closing_locks (λ f. []) self
             (closing_asks self).request result }

@@ -5,7 +5,7 @@
 ghost use Rattle.std.specs.Prelude.{◌≡◌, ◌<◌, ℕ};
 ghost use Rattle.dht_section.specs.declared.machine.Ask.{Ask as AnAsk};
 ghost use Rattle.dht_section.specs.Turns.{Moves};
-ghost use Rattle.dht_section.specs.Scene.{Scene, Sound, Permitted, Others};
+ghost use Rattle.dht_section.specs.Scene.{Scene, Sound, Permitted, Rely};
 
 use dht_brick::replies::Reply;
 use dht_brick::requests::Request;
@@ -46,7 +46,7 @@ pub trait Machine: Sized {
     ghost knows: { Self → Scene → Type 0 };
 
     /// How many requests it still sends at most.
-    ghost left: { Self → ℕ };
+    ghost variant: { Self → ℕ };
 
     /// What is true of the scene when it hands this out.
     ghost earned: { Self.Done → Scene → Type 0 };
@@ -57,11 +57,11 @@ pub trait Machine: Sized {
 
     /// Takes the reply to its request.
     fn take(self, reply: Reply, at: u64) -> Turn<Self, Self::Done>
-        ensures moves { Moves asks knows left earned self reply at result };
+        ensures moves { Moves asks knows variant earned self reply at result };
 
     /// It may send its request in every sound scene of which its knowledge holds.
     ghost permitted: { (m : Self) (s : Scene) → Sound s → knows m s → Permitted s (asks m) };
 
     /// What others may do leaves its knowledge true.
-    ghost stable: { (m : Self) (s t : Scene) → knows m s → Others s t → knows m t };
+    ghost stable: { (m : Self) (s t : Scene) → knows m s → Rely s t → knows m t };
 }

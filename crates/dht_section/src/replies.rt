@@ -2,7 +2,7 @@
 
 ghost use Rattle.std.specs.Prelude.{◌≡◌};
 ghost use Rattle.dht_section.specs.Replies.{is_no_memory, file_shown, range_shown};
-ghost use Rattle.dht_section.specs.Scene.{file_of_main, range_of_value};
+ghost use Rattle.dht_section.specs.Disk.{file_of_main, range_of_value};
 
 use dht_brick::replies::{Given, Reply};
 use dht_types::bytes::Bytes;
@@ -42,7 +42,7 @@ pub fn file_shown(reply: &Reply) -> Option<Gfid>
 }
 
 /// The range of hashes that an attribute gives a brick, if it gives one.
-#[tactic(auto, unfolding(crate::specs::Scene::range_of_value))]
+#[tactic(auto, unfolding(crate::specs::Disk::range_of_value))]
 fn range_of(value: &Option<Bytes>) -> Option<Range>
     ensures { result ≡ range_of_value value.now }
 {

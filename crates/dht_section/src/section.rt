@@ -4,7 +4,7 @@
 ghost use Rattle.std.specs.Prelude.{◌≡◌, ◌<◌, ℕ, false, [], None, option_map};
 ghost use Rattle.dht_section.specs.Scene.{Scene};
 ghost use Rattle.dht_section.specs.Turns.{Moves};
-ghost use Rattle.dht_section.specs.Section.{lock_brick, found_then, lengthened, seen, nothing_seen, held_holder, section_asks, section_left, section_location, section_locks, section_stopped, section_taught, SectionKnows, OutcomeFact, outcome_location, outcome_locks, is_stopped, KeepsLocation, LocksFollow, StopsByMemory, HasPlace};
+ghost use Rattle.dht_section.specs.Section.{lock_brick, found_then, lengthened, seen, nothing_seen, held_holder, section_asks, section_variant, section_location, section_locks, section_stopped, section_taught, SectionKnows, OutcomeFact, outcome_location, outcome_locks, is_stopped, KeepsLocation, LocksFollow, StopsByMemory, HasPlace};
 ghost use Rattle.dht_section.specs.SectionLaws.{section_permitted, section_stable};
 
 use super::machine::{Ask, Machine, Turn};
@@ -194,7 +194,7 @@ impl Machine for Section {
 
     ghost knows = { SectionKnows };
 
-    ghost left = { section_left };
+    ghost variant = { section_variant };
 
     ghost earned = { OutcomeFact };
 
@@ -219,7 +219,7 @@ impl Machine for Section {
     }
 
     fn take(self, reply: Reply, at: u64) -> Turn<Section, SectionOutcome>
-        ensures moves { Moves section_asks SectionKnows section_left OutcomeFact
+        ensures moves { Moves section_asks SectionKnows section_variant OutcomeFact
             self reply at result }
         ensures location { KeepsLocation self result }
         ensures locks { LocksFollow section_locks outcome_locks self

@@ -1,5 +1,5 @@
 -- The lines of one event are a head line and what stands under it.
-use Rattle.std.proofs.Common.{◌≡◌, ◌+◌, ℕ, Bool, true, false, List, [], ◌∷◌, ◌++◌, refl, sym, ap, subst, ◌∙◌}
+use Rattle.std.proofs.Common.{◌≡◌, ◌+◌, ℕ, Bool, true, false, [], ◌∷◌, ◌++◌, refl, sym, ap, subst, ◌∙◌}
 use Rattle.std.specs.Prelude.{Option, Some, None, is_some, not, MatchOption}
 use Rattle.dht_types.specs.History.{History, PendingCall}
 use Rattle.dht_types.specs.declared.identifiers.CallNo.{CallNo}
@@ -8,7 +8,6 @@ use Rattle.dht_types.specs.declared.calls.Call.{Call}
 use Rattle.dht_types.specs.declared.calls.TreeStep.{TreeStep}
 use Rattle.dht_types.specs.declared.events.Event.TheVariants as event
 use Rattle.dht_types.specs.declared.lines.Cause.TheVariants.{Busy, Idle}
-use Rattle.dht_types.specs.declared.lines.Line.{Line}
 use Rattle.dht_types.specs.declared.lines.Line.TheVariants.{Called, Stepped, Answered, Refused}
 use Rattle.dht_brick.specs.Kinds.{kind_of, reply_kind}
 use Rattle.dht_section.specs.declared.machine.Ask.{Ask}

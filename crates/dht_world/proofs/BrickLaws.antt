@@ -23,7 +23,7 @@ use Rattle.dht_brick.specs.declared.replies.Reply.{Reply}
 use Rattle.dht_brick.specs.declared.replies.Reply.TheVariants.{Ok as Carried, Refused as Declined, Wait, Down, Failed, NoMemory}
 use Rattle.dht_section.specs.declared.machine.Ask.{Ask}
 use Rattle.dht_section.specs.Scene.{Scene, May}
-use Rattle.dht_section.proofs.KeptLaws.{nat_cases}
+use Rattle.dht_section.proofs.EarlyLaws.{nat_cases}
 use Rattle.dht_world.specs.Bricks.{disk_of, journals_of, contents_at, journal_at, IsReady, ReadyAt, AreReady, volume_of, ServedAt}
 
 pub get_set_same : {A : Type 0} (xs : List A) (c : ℕ) (v : A) → c < length xs → slice_get (slice_set xs c v) c ≡ Some v

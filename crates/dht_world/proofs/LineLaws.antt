@@ -10,7 +10,8 @@ use Rattle.dht_types.proofs.HistoryLaws.{lines_append, legal_append, past_with_l
 use Rattle.dht_types.specs.declared.identifiers.ClientNo.{ClientNo}
 use Rattle.dht_types.specs.declared.lines.Line.{Line}
 use Rattle.dht_brick.specs.declared.journal.JournalEntry.{JournalEntry}
-use Rattle.dht_section.specs.Scene.{Disk, Others}
+use Rattle.dht_section.specs.Disk.{Disk}
+use Rattle.dht_section.specs.Scene.{Rely}
 use Rattle.dht_world.specs.Bricks.{act_of, changed_slots}
 use Rattle.dht_world.specs.Following.{InTimeFrom}
 use Rattle.dht_world.specs.World.{scene}
@@ -27,7 +28,7 @@ legal_lines past lines l k e = record {
 }
 
 -- a line that leaves tree and volume as they are does what others may do
-pub others_line : (d : Disk) (s : History) (c : ClientNo) (r : PendingCall) (x : Line) → (tells s x).tree ≡ s.tree → (tells s x).weights ≡ s.weights → Others (scene d s c r) (scene d (with_line s x) c r)
+pub others_line : (d : Disk) (s : History) (c : ClientNo) (r : PendingCall) (x : Line) → (tells s x).tree ≡ s.tree → (tells s x).weights ≡ s.weights → Rely (scene d s c r) (scene d (with_line s x) c r)
 others_line d s c r x et ew = record {
   who = refl;
   mine = refl;

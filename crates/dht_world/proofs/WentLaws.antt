@@ -30,8 +30,10 @@ use Rattle.dht_brick.specs.declared.replies.Given.{Given}
 use Rattle.dht_brick.specs.declared.replies.Reply.{Reply}
 use Rattle.dht_brick.specs.declared.replies.Reply.TheVariants.{Ok as Carried}
 use Rattle.dht_section.specs.declared.machine.Ask.{Ask}
-use Rattle.dht_section.specs.Scene.{Disk, Kept, Permitted, step_of, ChangesOneBrick, tree_by, deeds_by, outcome_of, Moved}
-use Rattle.dht_section.proofs.MovedLaws.{Tale, wants_of}
+use Rattle.dht_section.specs.Disk.{Disk, ChangesOneBrick}
+use Rattle.dht_section.specs.Scene.{Permitted, step_of, tree_by, deeds_by, outcome_of, Guarantee}
+use Rattle.dht_invariant.specs.After.{OnlyMine}
+use Rattle.dht_invariant.proofs.RowEffects.{wants_of}
 use Rattle.dht_world.specs.Bricks.{Logged, act_of, changed_slots}
 use Rattle.dht_world.specs.Following.{InTimeFrom}
 use Rattle.dht_world.specs.Lines.{tree_lines, request_lines}
@@ -69,7 +71,6 @@ views q r = inl (record { step = refl; change = refl })
 
 -- what is known when a request is sent and served
 pub record Sent (d : Disk) (js : ℕ → List JournalEntry) (s : History) (mine : PendingCall) (k : CallNo) (a : Ask) (r : Reply) (e : Disk) (ks : ℕ → List JournalEntry) : Type 0 where
-  pub kept : Kept d s
   pub logged : Logged js s
   pub owed : s.owed ≡ None
   pub runs : s.pending 0 ≡ Some mine
@@ -94,8 +95,8 @@ pub record Went (d : Disk) (s : History) (mine : PendingCall) (a : Ask) (r : Rep
   pub steps : mine_then.steps ≡ mine.steps + 1
   pub same_call : mine_then.call ≡ mine.call
   pub begun : mine_then.since ≤ (with_lines s lines).size
-  pub moved : Moved (scene d s client mine) a r (scene e (with_lines s lines) client mine_then)
-  pub tale : Tale (scene d s client mine) (scene e (with_lines s lines) client mine_then)
+  pub moved : Guarantee (scene d s client mine) a r (scene e (with_lines s lines) client mine_then)
+  pub only : OnlyMine (scene d s client mine) (scene e (with_lines s lines) client mine_then)
   pub owed : (with_lines s lines).owed ≡ None
   pub logged : Logged ks (with_lines s lines)
   pub same_weights : (with_lines s lines).weights ≡ s.weights
@@ -166,11 +167,10 @@ went_plain d js s mine k a r e ks h p =
         later = omega arith;
         past = past_with_line s (Stepped k client a.brick (kind_of a.request) (reply_kind r));
       };
-      tale = record {
+      only = record {
         calls = refl;
         pending = ap (put nat_eq s.pending 0) (ap stepped h.runs);
         point = point_with_line s (Stepped k client a.brick (kind_of a.request) (reply_kind r));
-        alone = h.alone;
         numbered = (let n = ap (λ (x : CallNo). x.0) h.number in let l = h.last in omega arith);
         small = (let n = ap (λ (x : CallNo). x.0) h.number in let l = h.small in omega arith);
       };
@@ -198,7 +198,7 @@ went_made d js s mine k b dir name file g e ks h =
     let second = Changed k step in
     let t = with_line s1 second in
     let begun = h.begun in
-    let wants = wants_of (scene d s client mine) (scene d s client mine) a (Carried g) h.new step h.served h.permitted refl in
+    let wants = wants_of (scene d s client mine) a (Carried g) h.new step h.served h.permitted refl in
     let runs1 : s1.pending 0 ≡ Some (more_steps mine) = put_same nat_eq exact_nat s.pending 0 (stepped (s.pending 0)) ∙ ap stepped h.runs in
     let shift : s.size + 1 + 1 ≡ s.size + 2 = omega arith in
     let did_it : did s1.tree (s1.size + 1) step (s1.pending 0) ≡ Some (made_steps s step mine) = ap (did s1.tree (s1.size + 1) step) runs1 ∙ ap (λ (n : ℕ). Some (record { number = mine.number; call = mine.call; since = mine.since; steps = mine.steps + 1; deeds = Some (deeds_after s.tree n mine.call mine.deeds step) })) shift in
@@ -229,11 +229,10 @@ went_made d js s mine k b dir name file g e ks h =
         later = omega arith;
         past = λ j l. past_with_line s1 second j (omega arith) ∙ past_with_line s first j l;
       };
-      tale = record {
+      only = record {
         calls = refl;
         pending = running;
         point = point_with_line s1 second;
-        alone = h.alone;
         numbered = (let n = ap (λ (x : CallNo). x.0) h.number in let l = h.last in omega arith);
         small = (let n = ap (λ (x : CallNo). x.0) h.number in let l = h.small in omega arith);
       };

@@ -16,7 +16,7 @@ use Rattle.dht_section.specs.declared.machine.Ask.{Ask}
 use Rattle.dht_types.specs.Put.{put}
 use Rattle.dht_types.specs.declared.identifiers.ClientNo.{ClientNo}
 use Rattle.dht_types.specs.declared.identifiers.CallNo.{CallNo}
-use Rattle.dht_section.specs.Scene.{Disk, ChangesOneBrick}
+use Rattle.dht_section.specs.Disk.{Disk, ChangesOneBrick}
 
 -- where there is no brick there is nothing
 abbrev pub nothing : Contents

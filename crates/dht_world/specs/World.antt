@@ -1,5 +1,5 @@
 -- What holds of a world between events.
-use Rattle.std.specs.Prelude.{ℕ, ◌≡◌, ◌≢◌, ◌≤◌, ◌+◌, Bool, MatchBool, Some, None, List, length}
+use Rattle.std.specs.Prelude.{ℕ, ◌≡◌, ◌≢◌, ◌≤◌, ◌+◌, MatchBool, Some, None, List, length}
 use Rattle.dht_types.specs.Cost.{cost}
 use Rattle.dht_types.specs.History.{History, PendingCall, Legal, history_of, start}
 use Rattle.dht_types.specs.declared.identifiers.ClientNo.{ClientNo}
@@ -8,7 +8,10 @@ use Rattle.dht_types.specs.declared.events.Event.TheVariants.{Volume, Call, Step
 use Rattle.dht_types.specs.declared.lines.Line.{Line}
 use Rattle.dht_brick.specs.declared.journal.JournalEntry.{JournalEntry}
 use Rattle.dht_section.specs.declared.caller.Caller.{Ghosts as CallerGhosts}
-use Rattle.dht_section.specs.Scene.{Disk, Scene, Kept}
+use Rattle.dht_section.specs.Disk.{Disk}
+use Rattle.dht_section.specs.Invariant.{Invariant}
+use Rattle.dht_section.specs.Early.{Early}
+use Rattle.dht_section.specs.Scene.{Scene}
 use Rattle.dht_types.specs.Calls.{IsInRoot}
 use Rattle.dht_world.specs.Bricks.{Logged}
 use Rattle.dht_world.specs.Following.{InTimeFrom}
@@ -29,11 +32,12 @@ pub record Works {C : Type 0} (g : CallerGhosts C) (d : Disk) (s : History) (cli
   pub number : mine.number.0 ≡ s.calls
   pub begun : mine.since ≤ s.size
   pub knows : g.knows client (scene d s (record { 0 = 0 }) mine)
-  pub in_time : mine.steps + g.left client ≤ cost (length s.weights) mine.call
+  pub in_time : mine.steps + g.variant client ≤ cost (length s.weights) mine.call
 
 -- what holds of bricks, journals, client and counts where the lines tell this history
 pub record Fit {C : Type 0} (g : CallerGhosts C) (d : Disk) (js : ℕ → List JournalEntry) (client : C) (ws : List ℕ) (run calls lines : ℕ) (s : History) : Type 0 where
-  pub kept : Kept d s
+  pub kept : Invariant d s
+  pub early : Early d s
   pub logged : Logged js s
   pub same_weights : s.weights ≡ ws
   pub same_run : s.run ≡ run

@@ -1,5 +1,5 @@
 use Rattle.std.proofs.Common.{◌∙◌, ap, sym, subst, arith}
-use Rattle.dht_client.specs.Program.{program_asks, program_left, program_locks, program_starved, ProgramKnows}
+use Rattle.dht_client.specs.Program.{program_asks, program_variant, program_locks, program_starved, ProgramKnows}
 use Rattle.dht_client.proofs.ClientSteps.{first_knows, first_steps, steps_cost, first_asked, first_locks, first_starved}
 use Rattle.dht_client.proofs.calling.ClientCaller.start.Goals as goal
 
@@ -7,9 +7,9 @@ pub returns-clause-knows : goal.returns-clause-knows
 returns-clause-knows c = λ s b.
     subst (λ p. ProgramKnows p s) (sym c.program.ensures.program) (first_knows c.args.self.now c.args.weights.now c.args.run c.args.call c.args.what.now s c.program.ensures.small c.requires.few c.requires.root b)
 
-pub returns-clause-left : goal.returns-clause-left
-returns-clause-left c =
-    let e = ap program_left c.program.ensures.program in
+pub returns-clause-variant : goal.returns-clause-variant
+returns-clause-variant c =
+    let e = ap program_variant c.program.ensures.program in
     let f = first_steps c.args.self.now c.args.weights.now c.args.run c.args.call c.args.what.now in
     let l = steps_cost (Rattle.std.specs.Prelude.is_some c.args.self.now.layout) (Rattle.std.specs.Prelude.length c.args.weights.now) c.args.what.now in
     omega arith
@@ -19,7 +19,7 @@ returns-clause-asks c = ap program_asks c.program.ensures.program ∙ first_aske
 
 pub returns-clause-steps : goal.returns-clause-steps
 returns-clause-steps c =
-    let e = ap program_left c.program.ensures.program in
+    let e = ap program_variant c.program.ensures.program in
     let f = first_steps c.args.self.now c.args.weights.now c.args.run c.args.call c.args.what.now in
     omega arith
 

@@ -10,7 +10,7 @@ returns-in-Go-clause-moves c = λ s t sound after knows moved at.
 pub returns-in-Securing-clause-moves : goal.returns-in-Securing-clause-moves
 returns-in-Securing-clause-moves c = λ s t sound after knows moved at.
     let q = section_runs c.args.self c.in-Securing.origin c.in-Securing.section c.args.reply s t c.in-Securing.is knows moved in
-    take_outcome c.args.self c.secured.result c.in-Securing.origin c.in-Securing.section c.args.reply s t c.in-Securing.is q c.secured.ensures.left
+    take_outcome c.args.self c.secured.result c.in-Securing.origin c.in-Securing.section c.args.reply s t c.in-Securing.is q c.secured.ensures.variant
     (c.secured.ensures.knows t after (comes_at c.in-Securing.origin _ c.in-Securing.section c.args.reply s t q c.in-Done.ensures.location) (c.in-Done.ensures.moves s t sound after q.knows q.moved at))
 
 pub returns-in-Creating-clause-moves : goal.returns-in-Creating-clause-moves

@@ -1,23 +1,27 @@
-use Rattle.std.proofs.Common.{◌∙◌, ap, sym, map, cond}
-use Rattle.std.specs.Prelude.{Some, find}
-use Rattle.dht_brick.proofs.TableLemmas.{gfid_total, gfid_exact, entries-plain}
+use Rattle.std.proofs.Common.{◌∙◌, ap, sym, map}
+use Rattle.std.specs.Prelude.{find}
+use Rattle.std.specs.BTreeMap.Range.{entries_between}
+use Rattle.std.specs.declared.ops.Bound.TheVariants.{Unbounded}
+use Rattle.dht_brick.proofs.TableLemmas.{gfid_total, gfid_exact, entries-plain, first_above, first_key}
+use Rattle.dht_brick.specs.Contents.{gfid_cmp}
 use Rattle.dht_brick.specs.Looks.{is_gfid_above}
 use Rattle.dht_files.specs.Records.{files_in}
 use Rattle.dht_files.proofs.records.Files.next_key.Goals as goal
 
-pub returns-then-is_gfid_above : goal.returns-then-is_gfid_above
+pub returns-in_err-file : goal.returns-in_err-file
 unfolding files_in
-returns-then-is_gfid_above c =
-    let above = is_gfid_above c.args.after in
-    let ordered = c.into_iter-file-iterator.ensures.into_iter_gives.5 in
-    ap (λ b. cond b (Some c.in-Some.file.now) (find above (map (λ e. e.0) c.next.new.self))) c.if-is_gfid_above.ensures
-    ∙ ap (λ xs. find above (map (λ e. e.0) xs)) (sym c.in-Some.ensures.steps) ∙ c.loop-file.invariant
-    ∙ ap (λ xs. find above (map (λ e. e.0) xs)) (sym (entries-plain gfid_total gfid_exact c.args.self.now.records.entries ordered))
+returns-in_err-file c =
+    let es = c.args.self.now.records.entries in
+    c.from_residual.ensures ∙ sym (ap first_key c.in_err-file.ensures.steps.0)
+    ∙ ap first_key (c.range.ensures.between tt) ∙ ap (λ b. first_key (entries_between gfid_cmp b Unbounded es)) c.gfids_from.ensures
+    ∙ sym (first_above c.args.after es)
+    ∙ ap (λ xs. find (is_gfid_above c.args.after) (map (λ e. e.0) xs)) (sym (entries-plain gfid_total gfid_exact es c.range.ensures.ordered))
 
 pub returns : goal.returns
 unfolding files_in
 returns c =
-    let above = is_gfid_above c.args.after in
-    let ordered = c.into_iter-file-iterator.ensures.into_iter_gives.5 in
-    ap (λ xs. find above (map (λ e. e.0) xs)) (sym c.in-None.ensures.steps.0) ∙ c.loop-file.invariant
-    ∙ ap (λ xs. find above (map (λ e. e.0) xs)) (sym (entries-plain gfid_total gfid_exact c.args.self.now.records.entries ordered))
+    let es = c.args.self.now.records.entries in
+    sym (ap first_key c.in_ok-file.ensures.steps)
+    ∙ ap first_key (c.range.ensures.between tt) ∙ ap (λ b. first_key (entries_between gfid_cmp b Unbounded es)) c.gfids_from.ensures
+    ∙ sym (first_above c.args.after es)
+    ∙ ap (λ xs. find (is_gfid_above c.args.after) (map (λ e. e.0) xs)) (sym (entries-plain gfid_total gfid_exact es c.range.ensures.ordered))

@@ -1,25 +1,29 @@
-use Rattle.std.proofs.Common.{◌∙◌, List, cond, Some, ap, sym, map}
+use Rattle.std.proofs.Common.{◌∙◌, List, ap, sym, map}
 use Rattle.std.specs.List.{find}
-use Rattle.std.specs.Map.{keys_of}
 use Rattle.dht_brick.specs.Looks.{is_gfid_above}
 use Rattle.dht_types.specs.declared.identifiers.Gfid.{Gfid}
 use Rattle.dht_types.specs.declared.stored.DirRecord.{DirRecord}
+use Rattle.dht_brick.specs.Contents.{gfid_cmp}
+use Rattle.std.specs.BTreeMap.Range.{entries_between}
+use Rattle.std.specs.declared.ops.Bound.TheVariants.{Unbounded}
+use Rattle.dht_brick.proofs.TableLemmas.{gfid_total, gfid_exact, entries-plain, first_above, first_key}
 use Rattle.dht_names.specs.Kept.{dirs_in}
-use Rattle.dht_names.proofs.SlotLemmas.{entries-plain, gfid_total, gfid_exact}
 use Rattle.dht_names.proofs.dirs.DirTable.next.Goals as goal
 
-pub returns-then-is_gfid_above : goal.returns-then-is_gfid_above
+pub returns-in_err-dir : goal.returns-in_err-dir
 unfolding dirs_in
-returns-then-is_gfid_above c =
-    let p = is_gfid_above c.args.after in
-    let ordered = c.into_iter-dir-iterator.ensures.into_iter_gives.5 in
-    sym (ap (λ (es : List (Gfid × DirRecord)). find p (keys_of es)) c.in-Some.ensures.steps ∙ ap (λ b. cond b (Some c.in-Some.dir.now) (find p (keys_of c.next.new.self))) (sym c.is_gfid_above.ensures ∙ c.if-is_gfid_above.true))
-    ∙ c.loop-dir.invariant ∙ sym (ap (λ (es : List (Gfid × DirRecord)). find p (map (λ e. e.0) es)) (entries-plain gfid_total gfid_exact c.args.self.now.kept.entries ordered))
+returns-in_err-dir c =
+    let es = c.args.self.now.kept.entries in
+    c.from_residual.ensures ∙ sym (ap first_key c.in_err-dir.ensures.steps.0)
+    ∙ ap first_key (c.range.ensures.between tt) ∙ ap (λ b. first_key (entries_between gfid_cmp b Unbounded es)) c.gfids_from.ensures
+    ∙ sym (first_above c.args.after es)
+    ∙ sym (ap (λ (xs : List (Gfid × DirRecord)). find (is_gfid_above c.args.after) (map (λ e. e.0) xs)) (entries-plain gfid_total gfid_exact es c.range.ensures.ordered))
 
 pub returns : goal.returns
 unfolding dirs_in
 returns c =
-    let p = is_gfid_above c.args.after in
-    let ordered = c.into_iter-dir-iterator.ensures.into_iter_gives.5 in
-    sym (ap (λ (es : List (Gfid × DirRecord)). find p (keys_of es)) c.in-None.ensures.steps.0)
-    ∙ c.loop-dir.invariant ∙ sym (ap (λ (es : List (Gfid × DirRecord)). find p (map (λ e. e.0) es)) (entries-plain gfid_total gfid_exact c.args.self.now.kept.entries ordered))
+    let es = c.args.self.now.kept.entries in
+    sym (ap first_key c.in_ok-dir.ensures.steps)
+    ∙ ap first_key (c.range.ensures.between tt) ∙ ap (λ b. first_key (entries_between gfid_cmp b Unbounded es)) c.gfids_from.ensures
+    ∙ sym (first_above c.args.after es)
+    ∙ sym (ap (λ (xs : List (Gfid × DirRecord)). find (is_gfid_above c.args.after) (map (λ e. e.0) xs)) (entries-plain gfid_total gfid_exact es c.range.ensures.ordered))

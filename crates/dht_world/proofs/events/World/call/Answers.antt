@@ -30,7 +30,7 @@ returns-clause-advances g c = λ past at.
       Called k client c.args.what.now ∷ [],
       c.push_line.ensures.items,
       record {
-        at = record { led = at_called g.C.Caller g.met.C.Caller.stable d js w.client c.start.new.self w.weights w.run w.calls w.lines past k c.args.what.now idle c.start.ensures.busy c.start.ensures.number refl c.start.ensures.knows c.start.ensures.left at.led; ready = at.ready };
+        at = record { led = at_called g.C.Caller g.met.C.Caller.stable d js w.client c.start.new.self w.weights w.run w.calls w.lines past k c.args.what.now idle c.start.ensures.busy c.start.ensures.number refl c.start.ensures.knows c.start.ensures.variant at.led; ready = at.ready };
         block = block_called (history_of past) c.args.line k c.args.what.now waits (omega arith);
         refused = takes_idle (history_of past) waits;
       },

@@ -4,7 +4,7 @@ use Rattle.dht_types.specs.declared.identifiers.CallNo.{CallNo}
 use Rattle.dht_types.specs.declared.lines.Line.TheVariants.{Answered}
 use Rattle.dht_brick.specs.declared.journal.JournalEntry.{JournalEntry}
 use Rattle.dht_brick.proofs.ResultLemmas.{on_err}
-use Rattle.dht_section.specs.Scene.{Disk}
+use Rattle.dht_section.specs.Disk.{Disk}
 use Rattle.dht_world.specs.Bricks.{disk_of, journals_of}
 use Rattle.dht_world.specs.Lines.{request_lines}
 use Rattle.dht_world.specs.World.{At}

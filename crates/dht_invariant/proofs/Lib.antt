@@ -1,0 +1,9 @@
+pub mod Basics
+pub mod Frames
+pub mod CreateKeeps
+pub mod OwnLaws
+pub mod RowEffects
+pub mod QuietKeeps
+pub mod RequestKeeps
+pub mod StandsLaws
+pub mod Newborn

@@ -1,0 +1,210 @@
+-- New bricks meet the invariant.
+use Rattle.std.proofs.Common.{◌≡◌, ◌≢◌, ◌<◌, ◌≤◌, ◌+◌, ◌*◌, ℕ, false, List, [], ◌∷◌, ◌++◌, refl, sym, ap, ◌∙◌, subst, inl, inr, length, arith}
+use Rattle.std.specs.Prelude.{zero, suc, Option, Some, None, IfSome, unwrap_or, is_some, take, map, count_by, slice_index_or}
+use Rattle.std.proofs.Math.Seq.{take-suc}
+use Rattle.std.proofs.lemmas.List.{take_all}
+use Rattle.std.proofs.lemmas.Bool.{cases_lt}
+use Rattle.std.specs.FinMap.{empty, entries, get-empty, len-entries, len-empty}
+use Rattle.dht_types.proofs.PutLaws.{exact_gfid}
+use Rattle.dht_types.proofs.HistoryLaws.{point_with_line}
+use Rattle.dht_types.specs.Gfid.{Entry, root, home, same_gfid, anchor}
+use Rattle.dht_types.specs.Tree.{first_tree}
+use Rattle.dht_types.specs.History.{with_line, start, IsOwn}
+use Rattle.dht_types.specs.declared.identifiers.Gfid.{Gfid}
+use Rattle.dht_types.specs.declared.identifiers.ClientNo.{ClientNo}
+use Rattle.dht_types.specs.declared.identifiers.CallNo.{CallNo}
+use Rattle.dht_types.specs.declared.stored.DirRecord.{DirRecord}
+use Rattle.dht_types.specs.declared.stored.Slot.{Slot}
+use Rattle.dht_types.specs.declared.lines.Line.TheVariants.{Volume}
+use Rattle.dht_xattr.proofs.RangeLaws.{decoded_encoded}
+use Rattle.dht_xattr.specs.Plan.{IsPlanned, planned, planned_value, value_of}
+use Rattle.dht_xattr.proofs.PlanLaws.{planned_length, planned_valid}
+use Rattle.dht_xattr.specs.declared.range.Range.{Range}
+use Rattle.dht_brick.specs.Contents.{Contents, newborn, slot, dir, file, bare, no_opens, gfid_cmp, entry_cmp, registration_cmp}
+use Rattle.dht_brick.specs.declared.opens.Registration.{Registration}
+use Rattle.dht_brick.specs.OpenRows.{registrations, is_sealed}
+use Rattle.dht_brick.specs.Parts.{is_copy, is_dir}
+use Rattle.dht_section.specs.Disk.{Disk, file_in, slot_at, name_at, file_at, dir_at, range_of_value, range_of, range_at, ranges_below, layout_of}
+use Rattle.dht_section.specs.Dirs.{DirInvariant, PlacedAt}
+use Rattle.dht_section.specs.Early.{Early, OnlyFirstHolds}
+use Rattle.dht_section.specs.Files.{FileInvariant}
+use Rattle.dht_section.specs.Invariant.{Invariant, Things, Used, ByBytes, ByDir, ByRecord, ByCopy, BySeal, no_places}
+use Rattle.dht_section.specs.Shapes.{Bare, Gone, body}
+use Rattle.dht_section.specs.Views.{core, links_to, view_of, dir_view}
+use Rattle.dht_types.specs.Volume.{HasWeight}
+use Rattle.dht_brick.proofs.TableLemmas.{gfid_total, gfid_exact}
+use Rattle.dht_section.proofs.ContentsLaws.{get_at, get_off}
+use Rattle.dht_invariant.specs.New.{AreNew}
+use Rattle.dht_invariant.proofs.Basics.{gfid_cases, none_some, some_same, not_true, true_false, anchor_within}
+use Rattle.dht_invariant.proofs.QuietKeeps.{first_alone}
+
+is_not : (g : Gfid) → g ≢ root → same_gfid g root ≡ false
+is_not g ne = not_true (same_gfid g root) (λ h. ne ((exact_gfid g root).0 h))
+
+-- the record of the root on a new brick
+abbrev root_record : Option (List ℕ) → DirRecord
+root_record v = record { place = None; depth = 0; value = v }
+
+root_only : (v : Option (List ℕ)) (g : Gfid) → is_some (dir (newborn v).store g) ≡ same_gfid g root
+root_only v g = elim (gfid_cases g root) [
+  | inl e ↦ ap is_some (ap (dir (newborn v).store) e ∙ get_at gfid_total empty root (root_record v)) ∙ sym ((exact_gfid g root).1 e)
+  | inr ne ↦ ap is_some (get_off gfid_total gfid_exact empty root (root_record v) g ne ∙ get-empty gfid_cmp g) ∙ sym (is_not g ne)
+]
+
+-- the range of the root on a new brick is the planned one
+range_back : (o : Option Range) → IfSome o IsPlanned → range_of_value (value_of o) ≡ o
+unfolding range_of_value
+range_back None h = refl
+range_back (Some r) h = decoded_encoded r h.range.committed h.range.ordered h.range.below
+
+below_taken : (d : Disk) (g : Gfid) (xs : List (Option Range)) (n : ℕ) → n ≤ length xs → ((b : ℕ) → b < n → range_at d g b ≡ slice_index_or xs b None) → ranges_below d g n ≡ take n xs
+unfolding ranges_below
+below_taken d g xs zero l h = refl
+below_taken d g xs (suc n) l h =
+    ap (λ ys. ys ++ range_at d g n ∷ []) (below_taken d g xs n (omega arith) (λ b k. h b (omega arith)))
+    ∙ (ap (λ x. take n xs ++ x ∷ []) (h n (omega arith))
+    ∙ sym (take-suc xs n None (omega arith)))
+
+no_length : {A : Type 0} (xs : List A) → length xs ≡ 0 → xs ≡ []
+no_length [] e = refl
+no_length (x ∷ xs) e = absurd (omega arith)
+
+-- nobody has opened anything on a new brick
+none_open : (f : Gfid) → registrations no_opens f ≡ 0
+unfolding registrations
+none_open f = ap (λ es. count_by (λ (r : Registration). same_gfid f r.file) (map (λ (e : Registration × Unit {0}). e.0) es)) none_kept
+  where
+    none_kept : entries no_opens.registered ≡ []
+    none_kept = no_length (entries no_opens.registered) (sym (len-entries no_opens.registered) ∙ len-empty registration_cmp (Unit {0}))
+
+module _ (ws : List ℕ) (d : Disk) (new : AreNew ws d) (some : 0 < d.count) where
+  -- what holds of a new brick
+  each_new : (P : Contents → Type 0) → ((v : Option (List ℕ)) → P (newborn v)) → (b : ℕ) → b < d.count → P (d.brick b)
+  each_new P h b l = subst P (sym (new.contents b l)) (h _)
+
+  no_slot : (b : ℕ) (x : Entry) → b < d.count → slot_at d b x ≡ bare
+  no_slot b x l = each_new (λ c. slot c.store x ≡ bare) (λ v. ap (λ o. unwrap_or o bare) (get-empty entry_cmp x)) b l
+
+  no_file : (b : ℕ) (f : Gfid) → b < d.count → file_at d b f ≡ None
+  no_file b f l = each_new (λ c. file c.store f ≡ None) (λ v. get-empty gfid_cmp f) b l
+
+  root_at : (b : ℕ) (g : Gfid) → b < d.count → is_some (dir_at d b g) ≡ same_gfid g root
+  root_at b g l = ap (λ (c : Contents). is_some (dir c.store g)) (new.contents b l) ∙ root_only _ g
+
+  -- the one record is the root's
+  record_at_root : (b : ℕ) (r : DirRecord) → b < d.count → dir_at d b root ≡ Some r → (r.place ≡ None) × (r.depth ≡ 0)
+  record_at_root b r l e =
+      let first : DirRecord = root_record (planned_value ws root b) in
+      let is : dir_at d b root ≡ Some first = ap (λ (c : Contents). dir c.store root) (new.contents b l) ∙ get_at gfid_total empty root first in
+      let same : r ≡ first = some_same (dir_at d b root) r first e is in
+      (ap (λ (x : DirRecord). x.place) same, ap (λ (x : DirRecord). x.depth) same)
+
+  of_root : (b : ℕ) (g : Gfid) (r : DirRecord) → b < d.count → dir_at d b g ≡ Some r → g ≡ root
+  of_root b g r l e = (exact_gfid g root).0 (sym (root_at b g l) ∙ ap is_some e)
+
+  root_parts : (b : ℕ) (g : Gfid) (r : DirRecord) → b < d.count → dir_at d b g ≡ Some r → (r.place ≡ None) × (r.depth ≡ 0)
+  root_parts b g r l e = record_at_root b r l (ap (dir_at d b) (sym (of_root b g r l e)) ∙ e)
+
+  root_home : (g : Gfid) → same_gfid g root ≡ is_some (dir_at d (home g) g)
+  root_home g = elim (cases_lt (home g) d.count) [
+    | inl l ↦ sym (root_at (home g) g l)
+    | inr l ↦ is_not g (λ e. let z : home g ≡ 0 = ap home e in absurd (omega arith)) ∙ sym (ap is_some (new.no_dirs (home g) g l))
+  ]
+
+  sole : OnlyFirstHolds d
+  sole b c key ne = elim (cases_lt b d.count) [
+    | inl l ↦ each_new (λ x. x.locks key c ≡ None) (λ v. refl) b l
+    | inr l ↦ new.no_locks b key c l
+  ]
+
+  no_links : (f : Gfid) (b : ℕ) (x : Entry) → b < d.count → links_to f (slot_at d b x) ≡ false
+  no_links f b x l = ap (links_to f) (no_slot b x l)
+
+  no_open : (f : Gfid) → (view_of d f).opened ≡ 0
+  no_open f = ap (λ (c : Contents). registrations c.opens f) (new.contents (anchor f d.count) (anchor_within f d.count some)) ∙ none_open f
+
+  no_seal : (f : Gfid) → (view_of d f).sealed ≡ false
+  no_seal f = ap (λ (c : Contents). is_sealed c.opens f) (new.contents (anchor f d.count) (anchor_within f d.count some)) ∙ ap is_some (get-empty gfid_cmp f)
+
+  file_new : (f : Gfid) (top : ℕ) → FileInvariant d.count top no_places (view_of d f) None
+  file_new f top = record {
+    shape = Gone;
+    records = record { fits = tt; has = λ b l. ap body (no_file b f l) };
+    low = λ k e. absurd (let z : None ≡ Some k = e in cc);
+    linked = λ b x l h. absurd (true_false (links_to f (slot_at d b x)) h (no_links f b x l));
+    names = λ b x l. ap (λ (s : Slot). is_copy f s.standby) (no_slot b x l);
+    points = λ i k n b l h t. absurd (none_some (file_at d i f) _ (no_file i f l) h);
+    sealed = λ h. absurd (true_false (view_of d f).sealed h (no_seal f));
+    truth = λ h. refl;
+    opened = λ h. absurd (let z = no_open f in omega arith);
+    kept = λ bytes shown e k. absurd (let z : None ≡ Some bytes = e in cc);
+  }
+
+  dir_new : (g : Gfid) → DirInvariant d.count g (dir_view d g) (same_gfid g root)
+  dir_new g = record {
+    homed = root_home g;
+    led = λ b l h. (let e = (exact_gfid g root).0 (sym (root_at b g l) ∙ h) in (subst (λ (x : Gfid). home x < d.count) (sym e) some, (exact_gfid g root).1 e));
+    one = λ b i r q l k h e. (let m = root_parts b g r l h in let n = root_parts i g q k e in record { place = n.0 ∙ sym m.0; depth = n.1 ∙ sym m.1 });
+    placed = λ b r l h. (let m = root_parts b g r l h in subst (PlacedAt (dir_view d g) b r) (sym m.0) m.1);
+    rooted = λ b r l h none. of_root b g r l h;
+    named = λ b x l h. absurd (true_false (is_dir g (slot_at d b x).main) h (ap (λ (s : Slot). is_dir g s.main) (no_slot b x l)));
+  }
+
+  things_new : (top : ℕ) → Things d first_tree top
+  things_new top = record {
+    names = λ x. (Bare, record { fits = tt; has = λ b l. ap core (no_slot b x l); node = refl });
+    files = λ f. file_new f top;
+    dirs = dir_new;
+    locks = λ b key l. first_alone d sole b key;
+    housed = λ x b l ne. absurd (ne (no_slot b x l));
+    roots = λ b l. root_at b root l;
+  }
+
+  -- nothing is used but the root, which no call made
+  only_root : (g : Gfid) → Used d first_tree g → g ≡ root
+  only_root g (ByBytes h) = absurd (h refl)
+  only_root g (ByDir h) = (exact_gfid g root).0 h
+  only_root g (ByRecord b r l h) = absurd (none_some (file_at d b g) r (no_file b g l) h)
+  only_root g (ByCopy b l h) = (exact_gfid g root).0 (sym (root_at b g l) ∙ h)
+  only_root g (BySeal h) = absurd (true_false (view_of d g).sealed h (no_seal g))
+
+  root_unmade : (c : ClientNo) (k : CallNo) (g : Gfid) → g ≡ root → IsOwn 1 c k g → ⊥
+  root_unmade c k g e own = not_made c.0 k.0 own.0 (ap (λ (x : Gfid). x.0) (sym own.2 ∙ e))
+    where
+      not_made : (c k h : ℕ) → (1 * 65536 + c) * 1208925819614629174706176 + (k * 65536 + h) ≡ 1 → ⊥
+      not_made c k h e = omega arith
+
+  range_new : HasWeight ws → d.count ≡ length ws → (b : ℕ) → b < d.count → range_at d root b ≡ slice_index_or (planned ws root) b None
+  range_new heavy count b l =
+      let o = slice_index_or (planned ws root) b None in
+      let size = planned_length ws root in
+      ap (λ (c : Contents). range_of (dir c.store root)) (new.contents b l)
+      ∙ (ap range_of (get_at gfid_total empty root (root_record (value_of o))) ∙ range_back o (planned_valid ws root heavy b None (omega arith)))
+
+  planned_new : HasWeight ws → d.count ≡ length ws → layout_of d root ≡ planned ws root
+  planned_new heavy count =
+      let size = planned_length ws root in
+      below_taken d root (planned ws root) d.count (omega arith) (range_new heavy count)
+      ∙ take_all d.count (planned ws root) (omega arith)
+
+  pub new_invariant : HasWeight ws → d.count ≡ length ws → d.count ≤ 32 → Invariant d (with_line start (Volume ws))
+  new_invariant heavy count few = record {
+    things = things_new _;
+    heavy = heavy;
+    some_brick = some;
+    counted = count;
+    few = few;
+    point = point_with_line start (Volume ws);
+    known = λ g c k l u own. absurd (root_unmade c k g (only_root g u) own);
+    fresh = λ c r g l e none own u. absurd (let z : None ≡ Some r = e in cc);
+  }
+
+  pub new_early : HasWeight ws → d.count ≡ length ws → Early d (with_line start (Volume ws))
+  new_early heavy count = record {
+    plain = λ x b l. inl (no_slot b x l);
+    unmoved = λ f b r l h. absurd (none_some (file_at d b f) r (no_file b f l) h);
+    held = λ x b f l h. absurd (none_some (name_at d b x) f (ap file_in (no_slot b x l)) h);
+    planned = planned_new heavy count;
+    alone = λ b g l. root_at b g l;
+    sole = sole;
+  }

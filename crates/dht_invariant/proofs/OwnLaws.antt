@@ -1,0 +1,12 @@
+-- A gfid tells its run, and which call of which client made it.
+use Rattle.std.proofs.Common.{◌≡◌, ◌<◌, ◌^◌, ◌+◌, ◌*◌, ℕ, sym, ap, ◌∙◌, arith}
+use Rattle.dht_types.specs.History.{IsOwn}
+use Rattle.dht_types.specs.declared.identifiers.Gfid.{Gfid}
+use Rattle.dht_types.specs.declared.identifiers.ClientNo.{ClientNo}
+use Rattle.dht_types.specs.declared.identifiers.CallNo.{CallNo}
+
+parts_same : (run c k h d j i : ℕ) → h < 65536 → i < 65536 → k < 18446744073709551616 → j < 18446744073709551616 → (run * 65536 + c) * 1208925819614629174706176 + (k * 65536 + h) ≡ (run * 65536 + d) * 1208925819614629174706176 + (j * 65536 + i) → (c ≡ d) × (k ≡ j)
+parts_same run c k h d j i lh li lk lj e = (omega arith, omega arith)
+
+pub own_is : (run : ℕ) (c d : ClientNo) (k j : CallNo) (g : Gfid) → k.0 < 2 ^ 64 → j.0 < 2 ^ 64 → IsOwn run c k g → IsOwn run d j g → (c.0 ≡ d.0) × (k.0 ≡ j.0)
+own_is run c d k j g lk lj h i = parts_same run c.0 k.0 h.0 d.0 j.0 i.0 h.1 i.1 lk lj (ap (λ (x : Gfid). x.0) (sym h.2 ∙ i.2))

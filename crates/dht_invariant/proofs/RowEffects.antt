@@ -1,0 +1,114 @@
+-- What a permitted request that was served did to its brick: nothing but with locks, or it made a file.
+use Rattle.std.proofs.Common.{◌≡◌, ℕ, Bool, true, false, List, refl, sym, ap, ◌∙◌, subst, inl, inr, ◌⊎◌}
+use Rattle.std.specs.Prelude.{Option, Some, None, is_some, is_none, ◌&&◌}
+use Rattle.dht_types.specs.declared.identifiers.Gfid.{Gfid}
+use Rattle.dht_types.specs.declared.identifiers.ClientNo.{ClientNo}
+use Rattle.dht_types.specs.declared.identifiers.CallNo.{CallNo}
+use Rattle.dht_types.specs.declared.calls.TreeStep.{TreeStep}
+use Rattle.dht_types.specs.declared.calls.TreeStep.TheVariants.{AddFile}
+use Rattle.dht_types.specs.declared.stored.DirRecord.{DirRecord}
+use Rattle.dht_brick.specs.Contents.{Contents, Store, slot, dir, file}
+use Rattle.dht_brick.specs.LockRows.{lock_row}
+use Rattle.dht_brick.specs.NameRows.{name_row, when, on_slot}
+use Rattle.dht_brick.specs.Outcome.{Outcome, Do, Refuse, Await, Serves, in_dir, within, left_by}
+use Rattle.dht_brick.specs.Parts.{is_bare}
+use Rattle.dht_brick.specs.Rows.{row, after, with_store, with_locks}
+use Rattle.dht_brick.specs.declared.requests.NameRequest.TheVariants.{Look, Dirinfo, Create}
+use Rattle.dht_brick.specs.declared.requests.Request.{Request}
+use Rattle.dht_brick.specs.declared.requests.Request.TheVariants.{Lock, Unlock, OnNames}
+use Rattle.dht_brick.specs.declared.replies.Given.{Given}
+use Rattle.dht_brick.specs.declared.replies.Reply.{Reply}
+use Rattle.dht_brick.specs.declared.replies.Reply.TheVariants.{Ok as Carried, Refused as Declined, Wait, Down, Failed, NoMemory}
+use Rattle.dht_section.specs.declared.machine.Ask.{Ask}
+use Rattle.dht_section.specs.Scene.{Scene, Permitted, Wants, May, step_of, outcome_of}
+use Rattle.dht_section.proofs.ContentsLaws.{added, new_slot}
+use Rattle.dht_section.proofs.SceneLaws.{IsQuiet, within_keeps, after_store, served_keeps, no_step}
+
+-- a request did no step of the tree, and changed nothing but locks
+pub record Quiet (q : Request) (r : Reply) (c new : Contents) : Type 0 where
+  pub step : step_of q r ≡ None
+  pub store : new.store ≡ c.store
+  pub opens : new.opens ≡ c.opens
+
+abbrev has_dir : Store → Gfid → Bool
+has_dir s g = is_some (dir s g)
+
+-- a request made a file
+pub record Adds (q : Request) (r : Reply) (c new : Contents) : Type 0 where
+  pub dir : Gfid
+  pub name : List ℕ
+  pub file : Gfid
+  pub request : q ≡ OnNames (Create dir name file)
+  pub step : step_of q r ≡ Some (AddFile dir name file)
+  pub housed : has_dir c.store dir ≡ true
+  pub store : new.store ≡ added c.store (dir, name) file
+  pub opens : new.opens ≡ c.opens
+  pub locks : new.locks ≡ c.locks
+
+-- a request that changes no name leaves who has a file open
+after_opens : (bricks : List (List ℕ)) (client : ClientNo) (call : CallNo) (q : Request) (c : Contents) → IsQuiet q → (after bricks client call q c).opens ≡ c.opens
+after_opens bricks client call (Lock key mode) c h = within_keeps (λ (x : Contents). x.opens) (with_locks c) (lock_row client key mode c.locks) c (λ l. refl)
+after_opens bricks client call (Unlock key) c h = refl
+after_opens bricks client call (OnNames q) c h = within_keeps (λ (x : Contents). x.opens) (with_store c) (name_row bricks q c.store) c (λ a. refl)
+after_opens bricks client call q c h = absurd h
+
+effect_quiet : (bricks : List (List ℕ)) (s : Scene) (q : Request) (c : Contents) (r : Reply) (new : Contents) → IsQuiet q → Serves (row bricks s.who s.mine.number q c) c r new → Quiet q r c new
+effect_quiet bricks s q c r new h v = record {
+  step = no_step q r h;
+  store = served_keeps (λ (x : Contents). x.store) (row bricks s.who s.mine.number q c) c r new (after_store bricks s.who s.mine.number q c h) v;
+  opens = served_keeps (λ (x : Contents). x.opens) (row bricks s.who s.mine.number q c) c r new (after_opens bricks s.who s.mine.number q c h) v;
+}
+
+is_done : Outcome Contents → Bool
+is_done (Do given new) = true
+is_done (Refuse why) = false
+is_done (Await holder) = false
+
+-- what a create comes to, where its directory is there, and its slot and its file are free, or not
+abbrev created : Gfid → List ℕ → Gfid → Contents → Option DirRecord → Bool → Outcome Contents
+created d n f c o b = within (with_store c) (in_dir o (λ x. on_slot (Create d n f) c.store (d, n) (when b (new_slot c.store (d, n) f))))
+
+created_by : (d : Gfid) (n : List ℕ) (f : Gfid) (c : Contents) (given : Given) (new : Contents) (o : Option DirRecord) (b : Bool) → dir c.store d ≡ o → created d n f c o b ≡ Do given new → Adds (OnNames (Create d n f)) (Carried given) c new
+unfolding is_done
+created_by d n f c given new None b e v = absurd (let z : false ≡ true = ap is_done v in cc)
+created_by d n f c given new (Some x) false e v = absurd (let z : false ≡ true = ap is_done v in cc)
+created_by d n f c given new (Some x) true e v = record {
+  dir = d;
+  name = n;
+  file = f;
+  request = refl;
+  step = refl;
+  housed = ap is_some e;
+  store = ap (λ (y : Outcome Contents). (left_by y c).store) (sym v);
+  opens = ap (λ (y : Outcome Contents). (left_by y c).opens) (sym v);
+  locks = ap (λ (y : Outcome Contents). (left_by y c).locks) (sym v);
+}
+
+unchanged : (q : Request) (r : Reply) (c new : Contents) → step_of q r ≡ None → new ≡ c → Quiet q r c new
+unchanged q r c new step e = record { step = step; store = ap (λ (x : Contents). x.store) e; opens = ap (λ (x : Contents). x.opens) e }
+
+effect_create : (d : Gfid) (n : List ℕ) (f : Gfid) (c : Contents) (r : Reply) (new : Contents) (o : Option DirRecord) (b : Bool) → dir c.store d ≡ o → Serves (created d n f c o b) c r new → Quiet (OnNames (Create d n f)) r c new ⊎ Adds (OnNames (Create d n f)) r c new
+effect_create d n f c (Carried given) new o b e v = inr (created_by d n f c given new o b e v)
+effect_create d n f c (Declined why) new o b e v = inl (unchanged _ _ c new refl v.1)
+effect_create d n f c (Wait holder) new o b e v = inl (unchanged _ _ c new refl v.1)
+effect_create d n f c Down new o b e v = absurd v
+effect_create d n f c Failed new o b e v = absurd v
+effect_create d n f c NoMemory new o b e v = inl (unchanged _ _ c new refl v)
+
+-- a request that was permitted and served did nothing but with locks, or made a file
+pub effect : (bricks : List (List ℕ)) (s : Scene) (b : ℕ) (q : Request) (c : Contents) (r : Reply) (new : Contents) → May s b q → Serves (row bricks s.who s.mine.number q c) c r new → Quiet q r c new ⊎ Adds q r c new
+effect bricks s b (Lock key mode) c r new may v = inl (effect_quiet bricks s (Lock key mode) c r new tt v)
+effect bricks s b (Unlock key) c r new may v = inl (effect_quiet bricks s (Unlock key) c r new tt v)
+effect bricks s b (OnNames (Look d n)) c r new may v = inl (effect_quiet bricks s (OnNames (Look d n)) c r new tt v)
+effect bricks s b (OnNames (Dirinfo d)) c r new may v = inl (effect_quiet bricks s (OnNames (Dirinfo d)) c r new tt v)
+effect bricks s b (OnNames (Create d n f)) c r new may v = effect_create d n f c r new (dir c.store d) (is_bare (slot c.store (d, n)) && is_none (file c.store f)) refl v
+effect bricks s b q c r new may v = absurd may
+
+-- a step of the tree comes of a request that was permitted for it
+pub wants_of : (s : Scene) (a : Ask) (r : Reply) (new : Contents) (step : TreeStep) → Serves (outcome_of s a) (s.disk.brick a.brick.0) r new → Permitted s a → step_of a.request r ≡ Some step → Wants s step
+wants_of s a r new step v p e = elim (effect _ s a.brick.0 a.request (s.disk.brick a.brick.0) r new p.may v) [
+  | inl q ↦ absurd (let z : Some step ≡ None = sym e ∙ q.step in cc)
+  | inr q ↦ (let may : May s a.brick.0 (OnNames (Create q.dir q.name q.file)) = subst (May s a.brick.0) q.request p.may in
+      let z : Some (AddFile q.dir q.name q.file) ≡ Some step = sym q.step ∙ e in
+      subst (Wants s) (let w : AddFile q.dir q.name q.file ≡ step = cc in w) may.3)
+]

@@ -1,0 +1,4 @@
+pub mod Makes
+pub mod After
+pub mod New
+pub mod Laws
