@@ -24,7 +24,8 @@ pub trait FileRecords {
     /// Gives a file that has no record that of a new, empty file.
     fn make(&mut self, file: Gfid) -> Result<(), AllocError>
         requires { get (files self.old) file ≡ None }
-        ensures ok { OnOk result (files self.new ≡ insert (files self.old) file (Record.Live 0 [])) }
+        ensures ok { OnOk result (files self.new
+            ≡ insert (files self.old) file (Record.Live 0 [])) }
         ensures err { OnErr result (files self.new ≡ files self.old) };
 
     /// Takes the record of a file away, if it has one.
@@ -34,5 +35,6 @@ pub trait FileRecords {
     /// Up to 256 files above this one, or from the start, that are here and have no links among these
     /// slots.
     fn orphans<S: Slots>(&self, after: Option<Gfid>, slots: &S) -> Result<Gfids, AllocError>
-        ensures { IfOk result (λ found. found ≡ orphans_of (store_of (S.tables slots.now) (files self.now)) after) };
+        ensures { IfOk result (λ found. found
+            ≡ orphans_of (store_of (S.tables slots.now) (files self.now)) after) };
 }

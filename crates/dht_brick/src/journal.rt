@@ -14,20 +14,20 @@ use std::marker::Model;
 /// What a brick notes of a request that it served. It needs no memory of its own.
 #[derive(Clone, Copy)]
 pub struct JournalEntry {
-    /// Who asked.
-    pub client: ClientNo,
-    /// In which call.
-    pub call: CallNo,
-    /// What was asked.
-    pub request: RequestKind,
     /// The directory of the slot or the lock, or else the directory or file, or 0.
     pub gfid: Gfid,
     /// The name of the slot or the lock, or else empty.
     pub name: Name,
+    /// In which call.
+    pub call: CallNo,
     /// The offset of the bytes that were read or written, or else 0.
     pub offset: u64,
     /// Their number, or the length that was set, or else 0.
     pub length: u64,
+    /// Who asked.
+    pub client: ClientNo,
+    /// What was asked.
+    pub request: RequestKind,
     /// What was replied.
     pub reply: ReplyKind,
 }

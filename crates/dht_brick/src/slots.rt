@@ -65,7 +65,8 @@ pub trait Slots {
     /// it. It takes no memory.
     fn put_file(&mut self, key: &EntryKey, file: Gfid)
         requires there { is_bare (slot_in (tables self.old).slots (entry_at key.now)) ≡ false }
-        requires copy { is_copy file (slot_in (tables self.old).slots (entry_at key.now)).standby ≡ true }
+        requires copy { is_copy file (slot_in (tables self.old).slots (entry_at key.now)).standby
+            ≡ true }
         ensures { tables self.new ≡ record (tables self.old) {
           slots = put_slot (tables self.old).slots (entry_at key.now) (with_main bare (Main.File file None));
         } };

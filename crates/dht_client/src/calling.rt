@@ -150,7 +150,7 @@ impl Caller for Client {
     {
         match self.pending.take() {
             Some(program) => {
-                self.layout = learn(self.layout, program.taught(&reply));
+                learn(&mut self.layout, program.taught(&reply));
                 match program.take(reply, at) {
                     Turn::Go(program) => {
                         self.pending = Some(program);

@@ -16,12 +16,12 @@ pub fn holder_in(layout: &Layout, name: &Name) -> Option<BrickNo>
     holder(layout, dm_hash(name.as_bytes()))
 }
 
-/// The layout that is known after a reply: the one that the reply taught, or the one known before.
-pub fn learn(known: Option<Layout>, taught: Option<Layout>) -> Option<Layout>
-    ensures { result ≡ learned known taught }
+/// What a client knows of the layout after a reply: the layout that the reply taught, if it taught
+/// one, or what it knew before.
+pub fn learn(known: &mut Option<Layout>, taught: Option<Layout>)
+    ensures { known.new ≡ learned known.old taught }
 {
-    match taught {
-        Some(layout) => Some(layout),
-        None => known,
+    if taught.is_some() {
+        *known = taught;
     }
 }

@@ -116,7 +116,8 @@ pub fn file_cell(row: FileRow, state: State) -> Cell
 /// each request but those that make it, fill it, commit it or give it up.
 pub fn file_table_facts()
     ensures free_write_refuses_moving { file_cell_of FileRow.Write State.Moving ≡ Cell.Refuse }
-    ensures free_truncate_refuses_moving { file_cell_of FileRow.Truncate State.Moving ≡ Cell.Refuse }
+    ensures free_truncate_refuses_moving { file_cell_of FileRow.Truncate State.Moving
+        ≡ Cell.Refuse }
     ensures only_demote_leads_from_moving_to_forward { (row : FileRow)
         → LeadsTo (file_cell_of row State.Moving) State.Forward ↔ (row ≡ FileRow.Demote) }
     ensures standby_refuses_all_but_six { (row : FileRow)

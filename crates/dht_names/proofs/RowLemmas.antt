@@ -9,7 +9,8 @@ use Rattle.dht_types.specs.declared.stored.Slot.{Slot}
 use Rattle.dht_types.specs.declared.stored.Record.{Record}
 use Rattle.dht_types.specs.declared.stored.Record.TheVariants.{Live, Moving, Standby as Copied, Forward}
 use Rattle.dht_guard.specs.declared.records.State.{State}
-use Rattle.dht_brick.specs.Contents.{Tables, Files, Store, Slots, store_of, slot_in}
+use Rattle.dht_brick.specs.Contents.{Tables, Files, Store, Slots, store_of, slot_in, entry_at}
+use Rattle.dht_types.specs.Gfid.{Entry}
 use Rattle.dht_brick.proofs.TableLemmas.{gfid_total, gfid_exact, remove-insert}
 use Rattle.dht_brick.specs.Looks.{shape_of}
 use Rattle.dht_brick.specs.Named.{name_named}
@@ -94,6 +95,10 @@ ok-made (Ok x) P h e n = h
 ok-made (Err y) P h e n = absurd (true≢false (sym e ∙ n))
 
 -- ---- what a function made of a slot answers the request
+
+-- the key of the slot that a request names
+pub key_of : (k : EntryKey) (q q2 : NameRequest) → entry_at k ≡ name_named q → q ≡ q2 → k ≡ record { dir = (name_named q2).0; name = (name_named q2).1 }
+key_of k q q2 named is = ap (λ (e : Entry). record { dir = e.0; name = e.1 }) (named ∙ ap name_named is)
 
 module _ (t t2 : Tables) (f : Files) (r : Reply) (q : NameRequest) (known : lacks_dir t.dirs q ≡ false) (k : EntryKey) (d : Gfid) (n : List ℕ) (key : k ≡ record { dir = d; name = n }) where
   -- where the request is this one of its key, and its row is that of a directory which is there

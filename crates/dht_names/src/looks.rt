@@ -7,6 +7,7 @@ ghost use Rattle.dht_types.specs.declared.stored.DirRecord.{DirRecord};
 ghost use Rattle.dht_types.specs.declared.stored.Record.{Record};
 ghost use Rattle.dht_brick.specs.Contents.{Files, entry_at, store_of};
 ghost use Rattle.dht_brick.specs.Looks.{dest_of, shape_of, file_look, look_of, file_hop, info_of};
+ghost use Rattle.dht_brick.specs.Parts.{slot_shown};
 ghost use Rattle.dht_brick.specs.declared.requests.NameRequest.{NameRequest};
 ghost use Rattle.dht_names.specs.Kept.{tables_in};
 ghost use Rattle.dht_names.specs.Served.{MeetsRow};
@@ -14,13 +15,13 @@ ghost use Rattle.dht_names.specs.Served.{MeetsRow};
 use crate::brick_tables::Tables;
 use crate::dirs::copied;
 use dht_brick::files::FileRecords;
-use dht_brick::replies::{DirInfo, FileLook, Given, Look, Reply, Why};
+use dht_brick::replies::{DirInfo, FileLook, Given, Look, MainShown, Reply, SlotShown, Why};
 use dht_brick::shapes::Shape;
 use dht_guard::State;
 use dht_types::bytes::Bytes;
 use dht_types::identifiers::{BrickNo, Gfid};
 use dht_types::names::{EntryKey, Name};
-use dht_types::stored::DirRecord;
+use dht_types::stored::{DirRecord, Main, Slot};
 use std::alloc::AllocError;
 
 /// Where the file is being copied to, if it is.
@@ -30,6 +31,22 @@ fn dest_of(shape: &Shape) -> Option<BrickNo>
     match shape.state {
         State::Moving => Some(shape.brick),
         _ => None,
+    }
+}
+
+/// The parts of a slot, as a refusal shows them.
+fn shown(slot: &Slot) -> SlotShown
+    ensures { result ≡ slot_shown slot.now }
+{
+    let main = match &slot.main {
+        None => None,
+        Some(Main::Dir(dir)) => Some(MainShown::Dir(*dir)),
+        Some(Main::File(file, over)) => Some(MainShown::File(*file, *over)),
+        Some(Main::Linkto(_)) => Some(MainShown::Linkto),
+    };
+    SlotShown {
+        main,
+        standby: slot.standby,
     }
 }
 
@@ -58,7 +75,8 @@ impl Tables {
             ≡ look_of (store_of (tables_in self.now) (F.files files.now))
             (entry_at key.now) dir.now) }
     {
-        let parts = self.slots.parts(key);
+        let slot = self.slots.slot(self.alloc, key)?;
+        let parts = shown(&slot);
         let file = match parts.file() {
             None => None,
             Some(file) => Some(self.file_look(file, files)),
@@ -68,7 +86,7 @@ impl Tables {
             Some(file) => Some(files.shape(file).hop),
         };
         Ok(Look {
-            slot: self.slots.slot(self.alloc, key)?,
+            slot,
             file,
             copy,
             value: copied(self.alloc, &dir.value)?,

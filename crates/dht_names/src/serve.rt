@@ -1,7 +1,9 @@
 //! How a request about directories and names is served.
 
 ghost use Rattle.std.specs.Prelude.{◌≡◌, ◌≢◌, false, length};
+ghost use Rattle.dht_brick.specs.Contents.{entry_at};
 ghost use Rattle.dht_brick.specs.Memory.{NameTakesNoMemory};
+ghost use Rattle.dht_brick.specs.Named.{name_named};
 ghost use Rattle.dht_brick.specs.Within.{NameMayBeSent};
 ghost use Rattle.dht_brick.specs.declared.replies.Reply.{Reply};
 ghost use Rattle.dht_brick.specs.declared.requests.NameRequest.{NameRequest};
@@ -13,13 +15,14 @@ use dht_brick::files::FileRecords;
 use dht_brick::replies::{Given, Reply, Why};
 use dht_brick::requests::NameRequest;
 use dht_types::identifiers::Gfid;
-use dht_types::names::{EntryKey, Name};
+use dht_types::names::EntryKey;
 
-/// The key of a slot.
-fn key(dir: Gfid, name: &Name) -> EntryKey
-    ensures { result ≡ record { dir = dir; name = name.now } }
+/// The key of the slot that a request names, or else of an empty name in its directory.
+fn slot_key(request: &NameRequest) -> EntryKey
+    ensures { entry_at result ≡ name_named request.now }
 {
-    EntryKey { dir, name: *name }
+    let (dir, name) = request.names();
+    EntryKey { dir, name }
 }
 
 impl Tables {
@@ -56,35 +59,31 @@ impl Tables {
             (tables_in self.new) (F.files files.new) }
         ensures memory { NameTakesNoMemory request.now → result ≢ Reply.NoMemory }
     {
+        let key = slot_key(request);
         match request {
-            NameRequest::Look(d, n) => self.look(&key(*d, n), files),
-            NameRequest::Page(d, after) => self.page(*d, after),
-            NameRequest::Dirinfo(d) => self.dirinfo(*d),
-            NameRequest::SetLayout(d, value) => self.set_layout(*d, value),
+            NameRequest::Look(_, _) => self.look(&key, files),
+            NameRequest::Page(dir, after) => self.page(*dir, after),
+            NameRequest::Dirinfo(dir) => self.dirinfo(*dir),
+            NameRequest::SetLayout(dir, value) => self.set_layout(*dir, value),
             NameRequest::MakeDir {
-                dir,
-                name,
                 made,
                 depth,
                 value,
-            } => self.make_dir(&key(*dir, name), *made, *depth, value),
-            NameRequest::DropDir(d, n, dir) => self.drop_dir(&key(*d, n), *dir),
-            NameRequest::Create(d, n, file) => self.create(&key(*d, n), *file, files),
-            NameRequest::MakeLinkto(d, n, value) => self.make_linkto(&key(*d, n), value),
-            NameRequest::DropLinkto(d, n) => self.drop_linkto(&key(*d, n)),
-            NameRequest::Unlink(d, n, file) => self.unlink(&key(*d, n), *file, files),
-            NameRequest::Link(d, n, file) => self.link(&key(*d, n), *file, files),
-            NameRequest::LinkOver(d, n, file, over) => {
-                self.link_over(&key(*d, n), *file, *over, files)
-            }
-            NameRequest::Contest(d, n, file, brick) => {
-                self.contest(&key(*d, n), *file, *brick, files)
-            }
-            NameRequest::Uncontest(d, n, file) => self.uncontest(&key(*d, n), *file),
-            NameRequest::StandLink(d, n, file) => self.stand_link(&key(*d, n), *file, files),
-            NameRequest::DropStandLink(d, n, file) => self.drop_stand_link(&key(*d, n), *file),
-            NameRequest::Swap(d, n, file, value) => self.swap(&key(*d, n), *file, value),
-            NameRequest::PromoteLink(d, n, file) => self.promote_link(&key(*d, n), *file),
+                ..
+            } => self.make_dir(&key, *made, *depth, value),
+            NameRequest::DropDir(_, _, dir) => self.drop_dir(&key, *dir),
+            NameRequest::Create(_, _, file) => self.create(&key, *file, files),
+            NameRequest::MakeLinkto(_, _, value) => self.make_linkto(&key, value),
+            NameRequest::DropLinkto(_, _) => self.drop_linkto(&key),
+            NameRequest::Unlink(_, _, file) => self.unlink(&key, *file, files),
+            NameRequest::Link(_, _, file) => self.link(&key, *file, files),
+            NameRequest::LinkOver(_, _, file, over) => self.link_over(&key, *file, *over, files),
+            NameRequest::Contest(_, _, file, brick) => self.contest(&key, *file, *brick, files),
+            NameRequest::Uncontest(_, _, file) => self.uncontest(&key, *file),
+            NameRequest::StandLink(_, _, file) => self.stand_link(&key, *file, files),
+            NameRequest::DropStandLink(_, _, file) => self.drop_stand_link(&key, *file),
+            NameRequest::Swap(_, _, file, value) => self.swap(&key, *file, value),
+            NameRequest::PromoteLink(_, _, file) => self.promote_link(&key, *file),
             NameRequest::Orphans(after) => self.orphans(*after, files),
         }
     }
