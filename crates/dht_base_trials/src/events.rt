@@ -10,8 +10,17 @@ use std::test::Fail;
 const TABLE: &str = "
     # the event of a line, which stands between bars; the name of a call in hexadecimal digits
     read |step 0| = step 0
+    read |step 63| = step 63
+    read |step 18446744073709551615| = step 18446744073709551615
+    read |down 0| = down 0
+    read |down 65536| = down 65536
+    read |up 31| = up 31
+    read |die 64| = die 64
     read |volume 3 0 1000 0| = volume [0, 1000, 0]
     read |call 0 lookup @ a| = call 0 lookup 00000000-0000-0000-0000-000000000001 61
+    read |call 63 create @ a| = call 63 create 00000000-0000-0000-0000-000000000001 61
+    read |call 18446744073709551615 lookup @ a| = \
+call 18446744073709551615 lookup 00000000-0000-0000-0000-000000000001 61
     read |call 0 create @ a%20%25%7f%ffz~!| = call 0 create 00000000-0000-0000-0000-000000000001 \
 6120257fff7a7e21
 
@@ -20,7 +29,8 @@ const TABLE: &str = "
     read | | = malformed
     read |step| = malformed
     read |step | = malformed
-    read |step 1| = malformed
+    read |step 18446744073709551616| = malformed
+    read |step -1| = malformed
     read |step 00| = malformed
     read |step +0| = malformed
     read |step 0 | = malformed
@@ -31,6 +41,19 @@ const TABLE: &str = "
     read |step @| = malformed
     read |Step 0| = malformed
     read |stop 0| = malformed
+    read |down| = malformed
+    read |down 01| = malformed
+    read |down 0 1| = malformed
+    read |up| = malformed
+    read |up 0 | = malformed
+    read |ups 0| = malformed
+    read |die| = malformed
+    read |die @| = malformed
+    read |die 0 0| = malformed
+    read |die 18446744073709551616| = malformed
+    read |cut 0| = malformed
+    read |fail 0| = malformed
+    read |remount 1 1| = malformed
     read |volume| = malformed
     read |volume 1| = malformed
     read |volume 0| = malformed
@@ -49,7 +72,8 @@ const TABLE: &str = "
     read |call 0 create @| = malformed
     read |call 0 create @ | = malformed
     read |call 0 create @ a b| = malformed
-    read |call 1 create @ a| = malformed
+    read |call 01 create @ a| = malformed
+    read |call 18446744073709551616 create @ a| = malformed
     read |call 0 unlink @ a| = malformed
     read |call 0 create @1 a| = malformed
     read |call 0 create 00000000-0000-0000-0000-000000000001 a| = malformed
@@ -92,6 +116,9 @@ fn told(alloc: Global, read: Result<Event, LineFault>) -> Result<String, AllocEr
             format!(in alloc; "call {client} {}", call_told(alloc, &call)?)
         }
         Ok(Event::Step(client)) => format!(in alloc; "step {client}"),
+        Ok(Event::Down(brick)) => format!(in alloc; "down {brick}"),
+        Ok(Event::Up(brick)) => format!(in alloc; "up {brick}"),
+        Ok(Event::Die(client)) => format!(in alloc; "die {client}"),
         Err(LineFault::Malformed) => format!(in alloc; "malformed"),
         Err(LineFault::OutOfMemory) => Err(AllocError),
     }

@@ -19,8 +19,14 @@ volume 2 0 7
 call 12 1 lookup 00000000-0000-0000-0000-000000000001 a%20b%25%7f
 call 12 1 create 00000000-0000-0000-0000-000000000001 a%20b%25%7f
 tree 12 add-file 00000000-0000-0000-0000-000000000001 a%20b%25%7f 00000001-0000-0000-0000-000000010002
+refused 7 unknown
+refused 7 dead
 refused 7 busy
 refused 7 idle
+wait 12 1 3 63
+down 3
+up 3
+die 1
 step 12 1 3 lock ok
 step 12 1 3 unlock ok
 step 12 1 3 look refused:nodir
@@ -29,9 +35,12 @@ step 12 1 3 create refused:slot
 step 12 1 3 mkstandby failed
 step 12 1 3 lwrite down
 answer 12 1 at 34 file 00000001-0000-0000-0000-000000010002
+answer 12 1 at 34 dir 00000001-0000-0000-0000-000000010002
 answer 12 1 at 34 made 00000001-0000-0000-0000-000000010002
 answer 12 1 at 34 eexist
 answer 12 1 enomem
+answer 12 1 enotconn
+answer 12 1 eio
 ";
 
 const STEPS: [(RequestKind, ReplyKind); 7] = [
@@ -74,26 +83,41 @@ ffffffff %-
 /// The file of the lines.
 const MADE: Gfid = Gfid(0x1_0000_0000_0000_0000_0001_0002);
 
+const CAUSES: [Cause; 4] = [Cause::Unknown, Cause::Dead, Cause::Busy, Cause::Idle];
+
+const ANSWERS: [(Option<u64>, Answer); 7] = [
+    (Some(34), Answer::File(MADE)),
+    (Some(34), Answer::Dir(MADE)),
+    (Some(34), Answer::Made(MADE)),
+    (Some(34), Answer::Fault(Errno::Eexist)),
+    (None, Answer::Fault(Errno::Enomem)),
+    (None, Answer::Fault(Errno::Enotconn)),
+    (None, Answer::Fault(Errno::Eio)),
+];
+
 /// The lines of a transcript.
 fn lines(alloc: Global) -> Result<Vec<Line>, AllocError> {
-    let (call, client, root) = (CallNo(12), ClientNo(1), Gfid::ROOT);
+    let (call, client, brick, root) = (CallNo(12), ClientNo(1), BrickNo(3), Gfid::ROOT);
     let name = Name::of(b"a b%\x7f");
     let mut lines = vec![in alloc;
         Line::Volume(Weights::new(vec![in alloc; 0, 7]?)),
         Line::Called(call, client, Call::Lookup(root, name)),
         Line::Called(call, client, Call::Create(root, name)),
         Line::Tree(call, TreeStep::AddFile(root, name, MADE)),
-        Line::Refused(7, Cause::Busy),
-        Line::Refused(7, Cause::Idle),
     ]?;
-    for (kind, reply) in STEPS {
-        lines.push(Line::Stepped(call, client, BrickNo(3), kind, reply))?;
+    for cause in CAUSES {
+        lines.push(Line::Refused(7, cause))?;
     }
-    let exists = Answer::Fault(Errno::Eexist);
-    lines.push(Line::Answered(call, client, Some(34), Answer::File(MADE)))?;
-    lines.push(Line::Answered(call, client, Some(34), Answer::Made(MADE)))?;
-    lines.push(Line::Answered(call, client, Some(34), exists))?;
-    lines.push(Line::Answered(call, client, None, Answer::Fault(Errno::Enomem)))?;
+    lines.push(Line::Waited(call, client, brick, ClientNo(63)))?;
+    lines.push(Line::WentDown(brick))?;
+    lines.push(Line::CameUp(brick))?;
+    lines.push(Line::Died(client))?;
+    for (kind, reply) in STEPS {
+        lines.push(Line::Stepped(call, client, brick, kind, reply))?;
+    }
+    for (point, answer) in ANSWERS {
+        lines.push(Line::Answered(call, client, point, answer))?;
+    }
     Ok(lines)
 }
 

@@ -1,10 +1,17 @@
 //! `ComesFrom` and `InTime`: whether a line comes from the event whose turn it is, and in time.
 
-use crate::history::{call_running, calls};
+use crate::history::{bricks, call_running, calls, is_dead, is_down, is_undisturbed, requests};
 use crate::verdict::{Definition, require};
 use dht_types::calls::Call;
 use dht_types::events::Event;
-use dht_types::lines::{Cause, Line};
+use dht_types::identifiers::{BrickNo, ClientNo};
+use dht_types::lines::{Cause, Line, ReplyKind, RequestKind};
+
+/// How many clients there are.
+const CLIENTS: u64 = 64;
+
+/// How many step lines and wait lines a run has at most.
+const MOST_REQUESTS: u64 = 200_000;
 
 /// Whether a line is the first of an event's lines.
 fn is_head_line(line: &Line) -> bool {
@@ -27,26 +34,89 @@ fn is_same_call(a: &Call, b: &Call) -> bool {
     }
 }
 
-/// `Head`: whether the line is the first of the event of the schedule's line of this number.
-fn is_head(past: &[Line], number: u64, event: &Event, line: &Line) -> bool {
-    let running = match event {
-        Event::Volume(_) => None,
-        Event::Call(client, _) | Event::Step(client) => call_running(past, *client),
+/// The first cause for which an event is refused after these lines, if there is one.
+fn cause(past: &[Line], event: &Event) -> Option<Cause> {
+    let client = match event {
+        Event::Volume(_) => return None,
+        Event::Down(brick) | Event::Up(brick) => {
+            return (*brick >= bricks(past)).then_some(Cause::Unknown);
+        }
+        Event::Call(client, _) | Event::Step(client) | Event::Die(client) => *client,
     };
-    match (event, running, line) {
-        (Event::Volume(weights), _, Line::Volume(told)) => told.as_slice() == weights.as_slice(),
-        (Event::Call(_, _), Some(_), Line::Refused(told, Cause::Busy)) => *told == number,
-        (Event::Call(client, call), None, Line::Called(nth, who, what)) => {
+    if client >= CLIENTS {
+        return Some(Cause::Unknown);
+    }
+    if is_dead(past, client) {
+        return Some(Cause::Dead);
+    }
+    match (event, call_running(past, client)) {
+        (Event::Call(_, _), Some(_)) => Some(Cause::Busy),
+        (Event::Step(_), None) => Some(Cause::Idle),
+        _ => None,
+    }
+}
+
+/// Whether a brick may reply so. It is down exactly where the lines say so, but it carries out an
+/// unlock; it does not fail; and that a lock waits is told by another line.
+fn may_reply(past: &[Line], brick: BrickNo, kind: RequestKind, reply: ReplyKind) -> bool {
+    match reply {
+        ReplyKind::Wait | ReplyKind::Failed => false,
+        ReplyKind::Down => is_down(past, brick) && kind != RequestKind::Unlock,
+        ReplyKind::Ok | ReplyKind::Refused(_) | ReplyKind::NoMemory => {
+            !is_down(past, brick) || kind == RequestKind::Unlock
+        }
+    }
+}
+
+/// Whether a lock that a client asked for may wait for this one, which holds it: it is another one,
+/// in a call of its own. A brick that is down lets nobody wait.
+fn may_wait(past: &[Line], client: ClientNo, brick: BrickNo, holder: ClientNo) -> bool {
+    let has_call = call_running(past, u64::from(holder.0)).is_some();
+    client != holder && has_call && !is_down(past, brick)
+}
+
+/// `IsStep`: whether the line is a step of the client's call, or tells that its lock waits.
+fn is_step(past: &[Line], client: u64, line: &Line) -> Result<(), Definition> {
+    let (number, who, may_be) = match line {
+        Line::Stepped(number, who, brick, kind, reply) => {
+            (*number, *who, may_reply(past, *brick, *kind, *reply))
+        }
+        Line::Waited(number, who, brick, holder) => {
+            (*number, *who, may_wait(past, *who, *brick, *holder))
+        }
+        _ => return Err(Definition::Head),
+    };
+    let is_of_call = match call_running(past, client) {
+        Some(running) => running.number == number && u64::from(who.0) == client,
+        None => false,
+    };
+    require(is_of_call, Definition::Head)?;
+    require(may_be, Definition::IsStep)
+}
+
+/// `Head`: whether the line is the first of the event of the schedule's line of this number.
+fn is_head(past: &[Line], number: u64, event: &Event, line: &Line) -> Result<(), Definition> {
+    if let Some(cause) = cause(past, event) {
+        let is_refused = match line {
+            Line::Refused(told, why) => *told == number && *why == cause,
+            _ => false,
+        };
+        return require(is_refused, Definition::Head);
+    }
+    let is_head = match (event, line) {
+        (Event::Volume(weights), Line::Volume(told)) => told.as_slice() == weights.as_slice(),
+        (Event::Call(client, call), Line::Called(nth, who, what)) => {
             nth.0 == calls(past).saturating_add(1)
                 && u64::from(who.0) == *client
                 && is_same_call(what, call)
         }
-        (Event::Step(_), None, Line::Refused(told, Cause::Idle)) => *told == number,
-        (Event::Step(client), Some(call), Line::Stepped(nth, who, _, _, _)) => {
-            *nth == call.number && u64::from(who.0) == *client
-        }
+        (Event::Step(client), _) => return is_step(past, *client, line),
+        (Event::Down(brick), Line::WentDown(told)) => u64::from(told.0) == *brick,
+        (Event::Up(brick), Line::CameUp(told)) => u64::from(told.0) == *brick,
+        (Event::Die(client), Line::Died(told)) => u64::from(told.0) == *client,
         _ => false,
-    }
+    };
+    require(is_head, Definition::Head)
 }
 
 /// The head line that came last, and the lines under it.
@@ -96,7 +166,7 @@ pub fn comes_from(events: &[Event], past: &[Line], line: &Line) -> Result<(), De
         return Err(Definition::ComesFrom);
     };
     let number = (count as u64).saturating_add(1);
-    require(is_head(past, number, event, line), Definition::Head)
+    is_head(past, number, event, line)
 }
 
 /// `cost`: how many steps a call takes at most.
@@ -107,22 +177,30 @@ fn cost(bricks: u64, call: &Call) -> u64 {
     }
 }
 
-/// `InTime`: the line is no step of a call that has used up its cost.
+/// `InTime`: the line is no step of a call that has used up its cost, and no lock of the call waits,
+/// where the call is alone in its span so far and nothing failed.
 pub fn in_time(past: &[Line], line: &Line) -> Result<(), Definition> {
-    let Line::Stepped(_, client, _, _, _) = line else {
+    let (Line::Stepped(_, client, _, _, _) | Line::Waited(_, client, _, _)) = line else {
         return Ok(());
     };
     let Some(running) = call_running(past, u64::from(client.0)) else {
         return Ok(());
     };
-    let mut bricks = 0;
-    for told in past {
-        if let Line::Volume(weights) = told {
-            bricks = weights.as_slice().len() as u64;
-        }
-    }
+    let is_step = match line {
+        Line::Stepped(_, _, _, _, _) => running.steps < cost(bricks(past), &running.call),
+        _ => false,
+    };
     require(
-        running.steps < cost(bricks, &running.call),
+        is_step || !is_undisturbed(past, &running),
         Definition::InTime,
     )
+}
+
+/// `IsWithinLimit`: the line is no step or wait line above those that a run may have.
+pub fn is_within_limit(past: &[Line], line: &Line) -> Result<(), Definition> {
+    let is_within = match line {
+        Line::Stepped(_, _, _, _, _) | Line::Waited(_, _, _, _) => requests(past) < MOST_REQUESTS,
+        _ => true,
+    };
+    require(is_within, Definition::IsWithinLimit)
 }

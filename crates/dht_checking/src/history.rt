@@ -141,6 +141,105 @@ pub fn calls(past: &[Line]) -> u64 {
     count
 }
 
+/// How many bricks the volume has.
+pub fn bricks(past: &[Line]) -> u64 {
+    let mut count = 0;
+    for line in past {
+        if let Line::Volume(weights) = line {
+            count = weights.as_slice().len() as u64;
+        }
+    }
+    count
+}
+
+/// How many step lines and wait lines there are.
+pub fn requests(past: &[Line]) -> u64 {
+    let mut count = 0u64;
+    for line in past {
+        if let Line::Stepped(_, _, _, _, _) | Line::Waited(_, _, _, _) = line {
+            count = count.saturating_add(1);
+        }
+    }
+    count
+}
+
+/// Whether a step line of a call has this reply.
+pub fn was_replied(past: &[Line], call: CallNo, reply: ReplyKind) -> bool {
+    let mut found = false;
+    for line in past {
+        if let Line::Stepped(number, _, _, _, told) = line {
+            found = found || (*number == call && *told == reply);
+        }
+    }
+    found
+}
+
+/// Whether a client has died.
+pub fn is_dead(past: &[Line], client: u64) -> bool {
+    let mut found = false;
+    for line in past {
+        if let Line::Died(who) = line {
+            found = found || u64::from(who.0) == client;
+        }
+    }
+    found
+}
+
+/// Whether a brick is down after these lines.
+pub fn is_down(past: &[Line], brick: BrickNo) -> bool {
+    let mut is_down = false;
+    for line in past {
+        match line {
+            Line::WentDown(at) if *at == brick => is_down = true,
+            Line::CameUp(at) if *at == brick => is_down = false,
+            _ => {}
+        }
+    }
+    is_down
+}
+
+/// Whether no line tells of a fault: of a brick that was down, failed or had no memory, of memory
+/// that ran out, or of a death.
+pub fn is_clean(past: &[Line]) -> bool {
+    let mut is_clean = true;
+    for line in past {
+        match line {
+            Line::WentDown(_) | Line::Died(_) => is_clean = false,
+            Line::Answered(_, _, _, Answer::Fault(Errno::Enomem)) => is_clean = false,
+            Line::Stepped(_, _, _, _, ReplyKind::Down | ReplyKind::Failed | ReplyKind::NoMemory) =>
+                {
+                    is_clean = false;
+                }
+            _ => {}
+        }
+    }
+    is_clean
+}
+
+/// Whether no client's call is running after these lines.
+fn is_quiet(past: &[Line]) -> bool {
+    let mut is_quiet = true;
+    for line in past {
+        if let Line::Called(number, client, _) = line {
+            match call_running(past, u64::from(client.0)) {
+                Some(running) if running.number == *number => is_quiet = false,
+                _ => {}
+            }
+        }
+    }
+    is_quiet
+}
+
+/// `IsUndisturbed`: whether a running call was the only one in its span so far, and no line tells of
+/// a fault.
+pub fn is_undisturbed(past: &[Line], running: &Running) -> bool {
+    let is_first = match past.get(..(running.since as usize).saturating_sub(1)) {
+        Some(front) => is_quiet(front),
+        None => false,
+    };
+    is_first && running.number.0 == calls(past) && is_clean(past)
+}
+
 /// A client's call after these lines.
 pub fn call_running(past: &[Line], client: u64) -> Option<Running> {
     let mut running: Option<Running> = None;
@@ -173,6 +272,7 @@ pub fn call_running(past: &[Line], client: u64) -> Option<Running> {
                 }
             }
             Line::Answered(_, who, _, _) if u64::from(who.0) == client => running = None,
+            Line::Died(who) if u64::from(who.0) == client => running = None,
             _ => {}
         }
     }

@@ -29,7 +29,7 @@ pub struct Entry {
 /// Which entries of a journal are counted.
 #[derive(Clone, Copy)]
 enum Among {
-    /// All of them, each of which has a step line.
+    /// All of them, each of which has a step line or a wait line.
     All,
     /// Those that changed the tree, each of which has a tree line.
     Changes,
@@ -53,14 +53,17 @@ fn entry_at(entries: &[Entry], brick: BrickNo, number: usize, among: Among) -> O
     None
 }
 
-/// How many step lines a brick has.
-fn steps_at(past: &[Line], brick: BrickNo) -> usize {
+/// How many requests a brick served, by its step lines and wait lines. A brick that is down serves
+/// none.
+fn served_at(past: &[Line], brick: BrickNo) -> usize {
     let mut count = 0usize;
     for line in past {
-        if let Line::Stepped(_, _, at, _, _) = line {
-            if *at == brick {
+        match line {
+            Line::Stepped(_, _, _, _, ReplyKind::Down) => {}
+            Line::Stepped(_, _, at, _, _) | Line::Waited(_, _, at, _) if *at == brick => {
                 count = count.saturating_add(1);
             }
+            _ => {}
         }
     }
     count
@@ -79,19 +82,36 @@ fn changes_at(past: &[Line], brick: BrickNo) -> usize {
     count
 }
 
+/// Whether the entry that a line tells of is of this call, and tells of this request and this reply.
+fn is_entry(
+    entry: Option<Entry>,
+    call: CallNo,
+    client: ClientNo,
+    request: RequestKind,
+    reply: ReplyKind,
+) -> bool {
+    match entry {
+        Some(entry) => {
+            entry.client == client
+                && entry.call == call
+                && entry.request == request
+                && entry.reply == reply
+        }
+        None => false,
+    }
+}
+
 /// The journal of the line's brick has the entry that the line tells of, at its place.
 pub fn logged(past: &[Line], line: &Line, entries: &[Entry]) -> Result<(), Definition> {
     let is_logged = match (line, line_owed(past)) {
+        (Line::Stepped(_, _, _, _, ReplyKind::Down), _) => true,
         (Line::Stepped(call, client, brick, request, reply), _) => {
-            match entry_at(entries, *brick, steps_at(past, *brick), Among::All) {
-                Some(entry) => {
-                    entry.client == *client
-                        && entry.call == *call
-                        && entry.request == *request
-                        && entry.reply == *reply
-                }
-                None => false,
-            }
+            let entry = entry_at(entries, *brick, served_at(past, *brick), Among::All);
+            is_entry(entry, *call, *client, *request, *reply)
+        }
+        (Line::Waited(call, client, brick, _), _) => {
+            let entry = entry_at(entries, *brick, served_at(past, *brick), Among::All);
+            is_entry(entry, *call, *client, RequestKind::Lock, ReplyKind::Wait)
         }
         (Line::Tree(_, TreeStep::AddFile(directory, name, _)), Some(owed)) => {
             let number = changes_at(past, owed.brick);
@@ -108,9 +128,9 @@ pub fn logged(past: &[Line], line: &Line, entries: &[Entry]) -> Result<(), Defin
 /// The lines tell of every entry of the journals.
 pub fn all_told(lines: &[Line], entries: &[Entry]) -> Result<(), Definition> {
     for entry in entries {
-        let steps = steps_at(lines, entry.brick);
+        let served = served_at(lines, entry.brick);
         let changes = changes_at(lines, entry.brick);
-        let is_told = entry_at(entries, entry.brick, steps, Among::All).is_none()
+        let is_told = entry_at(entries, entry.brick, served, Among::All).is_none()
             && entry_at(entries, entry.brick, changes, Among::Changes).is_none();
         require(is_told, Definition::Logged)?;
     }

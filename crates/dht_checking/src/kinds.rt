@@ -69,17 +69,24 @@ pub const REPLIES: [(&str, ReplyKind); 17] = [
 ];
 
 /// The word of each error of a call.
-pub const ERRORS: [(&str, Errno); 6] = [
+pub const ERRORS: [(&str, Errno); 8] = [
     ("enoent", Errno::Enoent),
     ("enomem", Errno::Enomem),
     ("eexist", Errno::Eexist),
     ("einval", Errno::Einval),
     ("enametoolong", Errno::Enametoolong),
     ("estale", Errno::Estale),
+    ("enotconn", Errno::Enotconn),
+    ("eio", Errno::Eio),
 ];
 
 /// The word of each cause for which an event is refused.
-pub const CAUSES: [(&str, Cause); 2] = [("busy", Cause::Busy), ("idle", Cause::Idle)];
+pub const CAUSES: [(&str, Cause); 4] = [
+    ("unknown", Cause::Unknown),
+    ("dead", Cause::Dead),
+    ("busy", Cause::Busy),
+    ("idle", Cause::Idle),
+];
 
 /// What a word stands for in a table of words.
 pub fn meaning<T: Copy>(table: &[(&str, T)], word: &str) -> Option<T> {

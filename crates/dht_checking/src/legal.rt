@@ -1,14 +1,14 @@
 //! `Legal`: whether a line may come next.
 
 use crate::history::{
-    Deed, Running, Said, call_running, calls, file_at, has_file, is_directory, line_owed, made_in,
-    says,
+    Deed, Running, Said, call_running, calls, file_at, has_file, is_dead, is_directory, line_owed,
+    made_in, says, was_replied,
 };
 use crate::verdict::{Definition, require};
 use dht_types::calls::{Answer, TreeStep};
 use dht_types::errors::Errno;
 use dht_types::identifiers::{BrickNo, CallNo, ClientNo, Gfid};
-use dht_types::lines::{Line, RequestKind};
+use dht_types::lines::{Line, ReplyKind, RequestKind};
 
 /// The number of the run.
 const RUN: u32 = 1;
@@ -22,6 +22,7 @@ fn is_same_step(a: &TreeStep, b: &TreeStep) -> bool {
 fn is_same_answer(a: &Answer, b: &Answer) -> bool {
     match (a, b) {
         (Answer::File(a), Answer::File(b)) => *a == *b,
+        (Answer::Dir(a), Answer::Dir(b)) => *a == *b,
         (Answer::Made(a), Answer::Made(b)) => *a == *b,
         (Answer::Fault(a), Answer::Fault(b)) => *a == *b,
         _ => false,
@@ -122,6 +123,14 @@ fn answers(
 ) -> Result<(), Definition> {
     match answer {
         Answer::Fault(Errno::Enomem) => require(at.is_none(), Definition::FaultHolds),
+        Answer::Fault(Errno::Enotconn) => {
+            let was_down = was_replied(past, running.number, ReplyKind::Down);
+            require(at.is_none() && was_down, Definition::FaultHolds)
+        }
+        Answer::Fault(Errno::Eio) => {
+            let has_failed = was_replied(past, running.number, ReplyKind::Failed);
+            require(at.is_none() && has_failed, Definition::FaultHolds)
+        }
         Answer::Fault(Errno::Einval) | Answer::Fault(Errno::Enametoolong) => {
             Err(Definition::FaultHolds)
         }
@@ -158,7 +167,7 @@ pub fn follows(past: &[Line], line: &Line) -> Result<(), Definition> {
             let is_next = number.0 == calls(past).saturating_add(1);
             require(is_idle && is_next, Definition::Follows)
         }
-        Line::Stepped(number, client, _, _, _) => {
+        Line::Stepped(number, client, _, _, _) | Line::Waited(number, client, _, _) => {
             let running = is_in(past, *client, *number);
             require(running.is_some(), Definition::IsIn)
         }
@@ -168,6 +177,10 @@ pub fn follows(past: &[Line], line: &Line) -> Result<(), Definition> {
                 None => Err(Definition::IsIn),
             }
         }
-        Line::Tree(_, _) | Line::Refused(_, _) => Ok(()),
+        Line::Died(client) => {
+            let is_first = !is_dead(past, u64::from(client.0));
+            require(is_first, Definition::Follows)
+        }
+        Line::Tree(_, _) | Line::WentDown(_) | Line::CameUp(_) | Line::Refused(_, _) => Ok(()),
     }
 }

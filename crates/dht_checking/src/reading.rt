@@ -94,6 +94,9 @@ fn event_of_words(words: &[&str]) -> Option<Event> {
             Some(Event::Call(number(who)?, what))
         }
         ["step", who] => Some(Event::Step(number(who)?)),
+        ["down", at] => Some(Event::Down(number(at)?)),
+        ["up", at] => Some(Event::Up(number(at)?)),
+        ["die", who] => Some(Event::Die(number(who)?)),
         _ => None,
     }
 }
@@ -110,10 +113,25 @@ pub fn event(alloc: Global, text: &str) -> Result<Option<Event>, AllocError> {
 fn answer(words: &[&str]) -> Option<Answer> {
     match words {
         ["file", file] => Some(Answer::File(gfid(file)?)),
+        ["dir", dir] => Some(Answer::Dir(gfid(dir)?)),
         ["made", file] => Some(Answer::Made(gfid(file)?)),
         [error] => Some(Answer::Fault(meaning(&ERRORS, error)?)),
         _ => None,
     }
+}
+
+/// The answer of a call, by the words behind those of its client.
+fn answered(nth: &str, who: &str, words: &[&str]) -> Option<Line> {
+    let (point, words) = match words {
+        ["at", point, rest @ ..] => (Some(number(point)?), rest),
+        words => (None, words),
+    };
+    Some(Line::Answered(
+        CallNo(number(nth)?),
+        ClientNo(small(who)?),
+        point,
+        answer(words)?,
+    ))
 }
 
 fn line_of_words(words: &[&str]) -> Option<Line> {
@@ -129,27 +147,20 @@ fn line_of_words(words: &[&str]) -> Option<Line> {
             meaning(&REQUESTS, request)?,
             meaning(&REPLIES, reply)?,
         )),
+        ["wait", nth, who, at, holder] => Some(Line::Waited(
+            CallNo(number(nth)?),
+            ClientNo(small(who)?),
+            BrickNo(small(at)?),
+            ClientNo(small(holder)?),
+        )),
         ["tree", nth, "add-file", at, called, file] => {
             let step = TreeStep::AddFile(gfid(at)?, name(called)?, gfid(file)?);
             Some(Line::Tree(CallNo(number(nth)?), step))
         }
-        ["answer", nth, who, "at", point, rest @ ..] => {
-            let at = Some(number(point)?);
-            Some(Line::Answered(
-                CallNo(number(nth)?),
-                ClientNo(small(who)?),
-                at,
-                answer(rest)?,
-            ))
-        }
-        ["answer", nth, who, rest @ ..] => {
-            Some(Line::Answered(
-                CallNo(number(nth)?),
-                ClientNo(small(who)?),
-                None,
-                answer(rest)?,
-            ))
-        }
+        ["answer", nth, who, rest @ ..] => answered(nth, who, rest),
+        ["down", at] => Some(Line::WentDown(BrickNo(small(at)?))),
+        ["up", at] => Some(Line::CameUp(BrickNo(small(at)?))),
+        ["die", who] => Some(Line::Died(ClientNo(small(who)?))),
         ["refused", nth, cause] => Some(Line::Refused(number(nth)?, meaning(&CAUSES, cause)?)),
         _ => None,
     }

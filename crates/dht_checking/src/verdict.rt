@@ -1,6 +1,6 @@
 //! Whether a line may stand where it does, and a transcript end there, by all the definitions.
 
-use crate::following::{comes_from, heads, in_time};
+use crate::following::{comes_from, heads, in_time, is_within_limit};
 use crate::history::line_owed;
 use crate::journals::{Entry, all_told, logged};
 use crate::legal::follows;
@@ -34,10 +34,14 @@ pub enum Definition {
     ComesFrom,
     /// The line is not the first of the event whose turn it is.
     Head,
+    /// No step of the call goes so: the brick is down or not, the lock waits for no such client.
+    IsStep,
     /// The line may not stand under its head line.
     Block,
-    /// The call has used up its cost.
+    /// The call has used up its cost, or waits, though it is alone and nothing failed.
     InTime,
+    /// The steps that a run may have are used up.
+    IsWithinLimit,
     /// The brick's journal tells otherwise.
     Logged,
 }
@@ -57,6 +61,7 @@ pub fn may_come(
     follows(past, line)?;
     comes_from(events, past, line)?;
     in_time(past, line)?;
+    is_within_limit(past, line)?;
     match journals {
         Some(entries) => logged(past, line, entries),
         None => Ok(()),

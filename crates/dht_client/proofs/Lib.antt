@@ -1,3 +1,4 @@
+pub mod PartSteps
 pub mod LookupSteps
 pub mod CreateSteps
 pub mod ProgramSteps

@@ -1,174 +1,291 @@
--- The steps of a lookup within its section and its closing.
-use Rattle.std.proofs.Common.{◌≡◌, ◌<◌, ◌≤◌, ◌+◌, ◌-◌, ℕ, Bool, true, false, List, [], refl, sym, ◌∙◌, ap, subst, arith}
-use Rattle.std.specs.Prelude.{Option, Some, None, nat_lt, nat_le, if◌then◌else◌}
+-- The steps of a lookup.
+use Rattle.std.proofs.Common.{◌≡◌, ◌<◌, ◌≤◌, ◌+◌, ◌-◌, ℕ, Bool, true, false, List, [], ◌∷◌, refl, sym, ◌∙◌, ap, subst, arith}
+use Rattle.std.specs.Prelude.{Option, Some, None, nat_lt, nat_le, nat_eq, if◌then◌else◌}
 use Rattle.std.proofs.lemmas.Bool.Decides.{nat_tests}
-use Rattle.dht_types.specs.declared.calls.Call.TheVariants.{Lookup}
-use Rattle.dht_brick.specs.declared.replies.Reply.{Reply}
+use Rattle.dht_types.specs.Gfid.{Entry}
+use Rattle.dht_types.specs.History.{Deeds, HasPoint, Tells}
 use Rattle.dht_types.specs.Tree.{Tree, IsFile, Refuse, says, looked_up, answer_of}
-use Rattle.dht_types.specs.History.{Deeds, Tells}
-use Rattle.dht_types.specs.declared.identifiers.Gfid.{Gfid}
-use Rattle.dht_types.specs.declared.errors.Errno.TheVariants.{Estale}
-use Rattle.dht_types.specs.declared.calls.Call.{Call}
+use Rattle.dht_types.specs.declared.calls.Answer.{Answer}
 use Rattle.dht_types.specs.declared.calls.Answer.TheVariants.{File}
-use Rattle.dht_section.specs.Replies.{is_no_memory, file_shown}
-use Rattle.dht_section.specs.Disk.{file_in, name_at}
-use Rattle.dht_section.specs.Scene.{Scene, Sound, Guarantee, MayAnswer}
-use Rattle.dht_section.proofs.SceneLaws.{slot_moved, deeds_quiet}
-use Rattle.dht_section.proofs.SectionSteps.{look_shown, node_is, saw_now}
-use Rattle.dht_section.specs.Section.{entry_at}
-use Rattle.dht_section.specs.declared.section.Place.{Place}
-use Rattle.dht_client.specs.Lookup.{Seeks}
-use Rattle.dht_client.specs.declared.lookup.Sought.{Sought}
-use Rattle.dht_section.specs.SectionLaws.{bricks_are}
-use Rattle.dht_section.specs.Section.{section_asks, section_variant, section_location, SectionKnows}
-use Rattle.dht_section.specs.Closing.{closing_asks, closing_variant, ClosingKnows}
-use Rattle.dht_section.proofs.SectionSteps.{section_goes_on, closing_short}
-use Rattle.dht_section.specs.declared.section.Location.{Location}
-use Rattle.dht_section.specs.declared.section.Section.{Section}
-use Rattle.dht_section.specs.declared.closing.Closing.{Closing}
+use Rattle.dht_types.specs.declared.calls.Call.{Call}
+use Rattle.dht_types.specs.declared.calls.Call.TheVariants.{Lookup}
+use Rattle.dht_types.specs.declared.errors.Errno.TheVariants.{Estale}
 use Rattle.dht_types.specs.declared.identifiers.BrickNo.{BrickNo}
+use Rattle.dht_types.specs.declared.identifiers.Gfid.{Gfid}
+use Rattle.dht_types.specs.declared.stored.Main.{Main}
+use Rattle.dht_types.specs.declared.stored.Main.TheVariants as main
+use Rattle.dht_brick.specs.declared.replies.Reply.{Reply}
+use Rattle.dht_brick.specs.declared.replies.Reply.TheVariants as reply
 use Rattle.dht_xattr.specs.declared.range.Range.{Range}
-use Rattle.dht_section.proofs.SectionSteps.{fresh_moved}
-use Rattle.dht_section.specs.Section.{IsFresh}
-use Rattle.dht_section.specs.declared.section.Section.TheVariants.{LockingDirectory}
+use Rattle.dht_types.specs.declared.stored.DirRecord.{DirRecord}
+use Rattle.dht_brick.specs.Contents.{Contents, dir}
+use Rattle.dht_brick.specs.Looks.{info_of, look_of}
+use Rattle.dht_brick.specs.Outcome.{Do, in_dir, within, reply_in}
+use Rattle.dht_brick.specs.Rows.{with_store}
+use Rattle.dht_brick.specs.declared.replies.Given.{Given}
+use Rattle.dht_brick.specs.declared.replies.Given.TheVariants as given
+use Rattle.dht_section.proofs.SceneLaws.{deeds_quiet, row_reply, tree_quiet}
+use Rattle.dht_section.proofs.SectionSteps.{fresh_moved, look_shown, root_in_tree}
+use Rattle.dht_section.specs.SectionLaws.{bricks_are}
+use Rattle.dht_section.specs.Claims.{Lock, claims_locks}
+use Rattle.dht_section.specs.Disk.{file_in, file_of_main, slot_at}
+use Rattle.dht_section.specs.Replies.{fault_of, file_shown, is_shown}
+use Rattle.dht_section.specs.Scene.{Scene, Sound, MayAnswer}
+use Rattle.dht_section.specs.Closing.{closing_stage}
+use Rattle.dht_section.specs.declared.closing.Closing.{Closing}
+use Rattle.dht_section.specs.declared.section.Held.{Held}
+use Rattle.dht_section.specs.declared.section.SectionOutcome.TheVariants.{Held as Holding}
+use Rattle.dht_section.specs.Section.{both_claimed, HasPlace, entry_at, found_shape, section_location, section_stage, outcome_ending, outcome_location, lock_of, directory_key, IsFresh, SawAt}
+use Rattle.dht_section.specs.Shapes.{NameShape, Bare, Folder, Plain, Marked, Contested, Standing, Copied, Committed, here, when_on, main_at, node_of}
+use Rattle.dht_section.specs.Stages.{Served, GoesOn, EndsIn, answered}
+use Rattle.dht_section.specs.Views.{visible}
+use Rattle.dht_section.specs.declared.machine.Finish.{Finish}
+use Rattle.dht_section.specs.declared.section.Location.{Location}
+use Rattle.dht_section.specs.declared.section.Place.{Place}
+use Rattle.dht_section.specs.declared.section.Section.{Section}
+use Rattle.dht_section.specs.declared.section.Section.TheVariants.{LockingDirectory, LockingName, Looking}
+use Rattle.dht_section.specs.declared.section.SectionOutcome.{SectionOutcome}
+use Rattle.dht_client.proofs.PartSteps.{part_served, part_goes_on, part_ends, free_goes_on, free_ends}
+use Rattle.dht_client.specs.Found.{found_at}
 use Rattle.dht_client.specs.Layout.{holder_in}
-use Rattle.dht_client.specs.Lookup.{IsLookup, Surveys, aimed_at, aimed, surveyed, lookup_asks, lookup_variant, lookup_locks, lookup_starved, LookupKnows, SecuresLookup}
+use Rattle.dht_client.specs.Lookup.{IsLookup, Seeks, aimed_at, aimed, surveyed, found_answer, lookup_stage}
+use Rattle.dht_client.specs.Parts.{Continues}
+use Rattle.dht_client.specs.declared.lookup.Sought.{Sought}
 use Rattle.dht_client.specs.declared.lookup.LookupCall.{LookupCall}
 use Rattle.dht_client.specs.declared.lookup.LookupCall.TheVariants.{Surveying, LookingAtHolder, Securing, Ending}
 
--- a lookup that aims at a brick of the volume, or at none
-data Aim (l : Location) : LookupCall → Type 0 where
-  AtHolder : (b : ℕ) → b < l.bricks → Aim l (LookingAtHolder (record { location = l; holder = record { 0 = b } }))
-  Everywhere : Aim l (Securing (LockingDirectory l))
+-- ---- where a lookup goes on that has claimed nothing
 
-aim_by : (l : Location) (b : ℕ) (v : Bool) → nat_lt b l.bricks ≡ v → Aim l (if v then LookingAtHolder (record { location = l; holder = record { 0 = b } }) else Securing (LockingDirectory l))
-aim_by l b true e = AtHolder b (grind (arith, nat_tests, e))
-aim_by l b false e = Everywhere
+-- it is in a stage that claims these locks, in which it still sends at most so many requests
+pub record Ready (m : LookupCall) (limit : ℕ) (t : Scene) : Type 0 where
+  pub next : List Lock
+  pub claims : (lookup_stage m).claims ≡ claims_locks next
+  pub variant : (lookup_stage m).variant ≤ limit
+  pub knows : (lookup_stage m).knows t
 
-aim_at : (l : Location) (o : Option ℕ) → Aim l (aimed_at l o)
-aim_at l None = Everywhere
-aim_at l (Some b) = aim_by l b (nat_lt b l.bricks) refl
+secures : (l : Location) (learned : Option (List (Option Range))) (t : Scene) → IsLookup l t → IsFresh l t → Ready (Securing (LockingDirectory l) learned) (l.bricks + 5) t
+secures l learned t call fresh = record { next = lock_of l (directory_key l) ∷ []; claims = refl; variant = omega arith; knows = (fresh, call) }
 
-aim_knows : (l : Location) (m : LookupCall) (s : Scene) → Aim l m → IsLookup l s → IsFresh l s → LookupKnows m s
-aim_knows l m s (AtHolder b within) call fresh = record { call = call; within = within; fresh = fresh }
-aim_knows l m s Everywhere call fresh = record { call = call; section = fresh }
+looks : (l : Location) (learned : Option (List (Option Range))) (b : ℕ) (t : Scene) → b < l.bricks → IsLookup l t → IsFresh l t → Ready (LookingAtHolder (record { location = l; holder = record { 0 = b } }) learned) (l.bricks + 5) t
+looks l learned b t within call fresh = record { next = []; claims = refl; variant = omega arith; knows = record { call = call; fresh = fresh; within = within } }
 
-aim_variant : (l : Location) (m : LookupCall) → Aim l m → lookup_variant m ≤ l.bricks + 5
-aim_variant l m (AtHolder b within) = omega arith
-aim_variant l m Everywhere = omega arith
-
-aim_locks : (l : Location) (m : LookupCall) → Aim l m → lookup_locks m ≡ []
-aim_locks l m (AtHolder b within) = refl
-aim_locks l m Everywhere = refl
-
-aim_fed : (l : Location) (m : LookupCall) → Aim l m → lookup_starved m ≡ false
-aim_fed l m (AtHolder b within) = refl
-aim_fed l m Everywhere = refl
-
-pub aimed_knows : (l : Location) (ranges : List (Option Range)) (s : Scene) → IsLookup l s → IsFresh l s → LookupKnows (aimed l ranges) s
-aimed_knows l ranges s call fresh = aim_knows l _ s (aim_at l (holder_in ranges l.name)) call fresh
-
-pub aimed_variant : (l : Location) (ranges : List (Option Range)) → lookup_variant (aimed l ranges) ≤ l.bricks + 5
-aimed_variant l ranges = aim_variant l _ (aim_at l (holder_in ranges l.name))
-
-pub aimed_locks : (l : Location) (ranges : List (Option Range)) → lookup_locks (aimed l ranges) ≡ []
-aimed_locks l ranges = aim_locks l _ (aim_at l (holder_in ranges l.name))
-
-pub aimed_fed : (l : Location) (ranges : List (Option Range)) → lookup_starved (aimed l ranges) ≡ false
-aimed_fed l ranges = aim_fed l _ (aim_at l (holder_in ranges l.name))
-
--- after one brick more has given the directory's record
-survey_by : (l : Location) (b : BrickNo) (ranges : List (Option Range)) (v : Bool) (s : Scene) → nat_le (l.bricks - b.0) 1 ≡ v → b.0 < l.bricks → IsLookup l s → IsFresh l s → LookupKnows (if v then aimed l ranges else Surveying l (record { 0 = b.0 + 1 }) ranges) s × (lookup_variant (if v then aimed l ranges else Surveying l (record { 0 = b.0 + 1 }) ranges) < (l.bricks - b.0) + l.bricks + 5)
-survey_by l b ranges true s e within call fresh = (aimed_knows l ranges s call fresh, let a = aimed_variant l ranges in omega arith)
-survey_by l b ranges false s e within call fresh = (record { call = call; fresh = fresh; within = λ some. grind (arith, nat_tests, e) }, grind (arith, nat_tests, e))
-
-survey_step : (l : Location) (b : BrickNo) (old ranges : List (Option Range)) (r : Reply) (s t : Scene) → Sound s → Surveys l b s → Guarantee s (lookup_asks (Surveying l b old)) r t → LookupKnows (surveyed l b ranges) t × (lookup_variant (surveyed l b ranges) < (l.bricks - b.0) + l.bricks + 5)
-survey_step l b old ranges r s t sound h m =
-    let bricks = bricks_are l s sound h.fresh.place in
-    let some = sound.kept.some_brick in
-    let l0 : 0 < l.bricks = omega arith in
-    survey_by l b ranges (nat_le (l.bricks - b.0) 1) t refl (h.within l0) (m.call ∙ h.call) (fresh_moved l s t _ r tt h.fresh m)
-
-pub take_survey : (c n : LookupCall) (l : Location) (b : BrickNo) (old ranges : List (Option Range)) (r : Reply) (s t : Scene) → c ≡ Surveying l b old → n ≡ surveyed l b ranges → Sound s → LookupKnows c s → Guarantee s (lookup_asks c) r t → LookupKnows n t × (lookup_variant n < lookup_variant c)
-take_survey c n l b old ranges r s t e f sound h mv = rw f (rw e (survey_step l b old ranges r s t sound (rw e at h) (rw e at mv)))
-
-pub surveyed_locks : (l : Location) (b : BrickNo) (ranges : List (Option Range)) → lookup_locks (surveyed l b ranges) ≡ []
-surveyed_locks l b ranges = by (nat_le (l.bricks - b.0) 1)
+pub aimed_ready : (l : Location) (learned : Option (List (Option Range))) (o : Option ℕ) (t : Scene) → IsLookup l t → IsFresh l t → Ready (aimed_at l learned o) (l.bricks + 5) t
+aimed_ready l learned None t call fresh = secures l learned t call fresh
+aimed_ready l learned (Some b) t call fresh = by (nat_lt b l.bricks) refl
   where
-    by : (v : Bool) → lookup_locks (if v then aimed l ranges else Surveying l (record { 0 = b.0 + 1 }) ranges) ≡ []
-    by true = aimed_locks l ranges
-    by false = refl
+    by : (v : Bool) → nat_lt b l.bricks ≡ v → Ready (if v then LookingAtHolder (record { location = l; holder = record { 0 = b } }) learned else Securing (LockingDirectory l) learned) (l.bricks + 5) t
+    by true e = looks l learned b t (grind (arith, nat_tests, e)) call fresh
+    by false e = secures l learned t call fresh
 
-pub surveyed_fed : (l : Location) (b : BrickNo) (ranges : List (Option Range)) → lookup_starved (surveyed l b ranges) ≡ false
-surveyed_fed l b ranges = by (nat_le (l.bricks - b.0) 1)
+surveyed_ready : (l : Location) (b : BrickNo) (ranges : List (Option Range)) (t : Scene) → b.0 < l.bricks → IsLookup l t → IsFresh l t → Ready (surveyed l b ranges) ((l.bricks - b.0) + l.bricks + 4) t
+surveyed_ready l b ranges t within call fresh = by (nat_le (l.bricks - b.0) 1) refl
   where
-    by : (v : Bool) → lookup_starved (if v then aimed l ranges else Surveying l (record { 0 = b.0 + 1 }) ranges) ≡ false
-    by true = aimed_fed l ranges
-    by false = refl
+    by : (v : Bool) → nat_le (l.bricks - b.0) 1 ≡ v → Ready (if v then aimed l (Some ranges) ranges else Surveying l (record { 0 = b.0 + 1 }) ranges) ((l.bricks - b.0) + l.bricks + 4) t
+    by true e =
+        let a = aimed_ready l (Some ranges) (holder_in ranges l.name) t call fresh in
+        let v = a.variant in
+        record { next = a.next; claims = a.claims; variant = omega arith; knows = a.knows }
+    by false e = record {
+      next = [];
+      claims = refl;
+      variant = grind (arith, nat_tests, e);
+      knows = record { call = call; fresh = fresh; within = λ some. grind (arith, nat_tests, e) };
+    }
+
+-- ---- the survey, and the look at the holder
+
+some_bricks : (l : Location) (s : Scene) → Sound s → IsFresh l s → 0 < l.bricks
+some_bricks l s sound h = let c = sound.kept.counted in let k = sound.kept.some_brick in let b = h.place.bricks in omega arith
+
+survey_step : (l : Location) (b : BrickNo) (old ranges : List (Option Range)) (r : Reply) (at : ℕ) (s t : Scene) → Served (lookup_stage (Surveying l b old)) r at s t → GoesOn (lookup_stage (Surveying l b old)) (lookup_stage (surveyed l b ranges)) r t
+survey_step l b old ranges r at s t h =
+    let k = h.is_at.knows in
+    let within : b.0 < l.bricks = k.within (some_bricks l s h.before k.fresh) in
+    let ready = surveyed_ready l b ranges t within (h.moved.mine.call ∙ k.call) (fresh_moved l s t _ r tt k.fresh h.moved) in
+    let v = ready.variant in
+    free_goes_on _ _ ready.next r at s t refl ready.claims ready.knows (omega arith) h
+
+pub take_survey : (c n : LookupCall) (l : Location) (b : BrickNo) (old ranges : List (Option Range)) (r : Reply) (at : ℕ) (s t : Scene) → c ≡ Surveying l b old → n ≡ surveyed l b ranges → Served (lookup_stage c) r at s t → GoesOn (lookup_stage c) (lookup_stage n) r t
+take_survey c n l b old ranges r at s t e k =
+    subst (λ (x : LookupCall). Served (lookup_stage x) r at s t → GoesOn (lookup_stage x) (lookup_stage n) r t) (sym e)
+    (subst (λ (x : LookupCall). Served (lookup_stage (Surveying l b old)) r at s t → GoesOn (lookup_stage (Surveying l b old)) (lookup_stage x) r t) (sym k) (survey_step l b old ranges r at s t))
+
+miss_step : (x : Sought) (learned : Option (List (Option Range))) (r : Reply) (at : ℕ) (s t : Scene) → Served (lookup_stage (LookingAtHolder x learned)) r at s t → GoesOn (lookup_stage (LookingAtHolder x learned)) (lookup_stage (Securing (LockingDirectory x.location) learned)) r t
+miss_step x learned r at s t h =
+    let k = h.is_at.knows in
+    free_goes_on _ _ (lock_of x.location (directory_key x.location) ∷ []) r at s t refl refl (fresh_moved x.location s t _ r tt k.fresh h.moved, h.moved.mine.call ∙ k.call) (omega arith) h
+
+pub take_miss : (c : LookupCall) (x : Sought) (learned : Option (List (Option Range))) (n : Section) (r : Reply) (at : ℕ) (s t : Scene) → c ≡ LookingAtHolder x learned → n ≡ LockingDirectory x.location → Served (lookup_stage c) r at s t → GoesOn (lookup_stage c) (lookup_stage (Securing n learned)) r t
+take_miss c x learned n r at s t e k =
+    subst (λ (i : LookupCall). Served (lookup_stage i) r at s t → GoesOn (lookup_stage i) (lookup_stage (Securing n learned)) r t) (sym e)
+    (subst (λ (i : Section). Served (lookup_stage (LookingAtHolder x learned)) r at s t → GoesOn (lookup_stage (LookingAtHolder x learned)) (lookup_stage (Securing i learned)) r t) (sym k) (miss_step x learned r at s t))
+
+-- ---- a brick that is up shows what it has, so that neither request is sent again
+
+brick_shows : (o : Option DirRecord) (gives : DirRecord → Given) (c : Contents) → is_shown (reply_in (within (with_store c) (in_dir o (λ x. Do (gives x) c.store)))) ≡ true
+brick_shows None gives c = refl
+brick_shows (Some x) gives c = refl
+
+both : (b : Bool) → b ≡ true → b ≡ false → ⊥
+both b e k = let z : true ≡ false = sym e ∙ k in cc
+
+survey_shown : (l : Location) (b : BrickNo) (ranges : List (Option Range)) (r : Reply) (at : ℕ) (s t : Scene) → fault_of r ≡ None → Served (lookup_stage (Surveying l b ranges)) r at s t → is_shown r ≡ true
+survey_shown l b ranges r at s t z h =
+    let c : Contents = s.disk.brick b.0 in
+    ap is_shown (row_reply s t _ r h.moved z) ∙ brick_shows (dir c.store l.directory) (λ x. given.Dirinfo (info_of c.store l.directory x)) c
+
+look_shows : (x : Sought) (learned : Option (List (Option Range))) (r : Reply) (at : ℕ) (s t : Scene) → fault_of r ≡ None → Served (lookup_stage (LookingAtHolder x learned)) r at s t → is_shown r ≡ true
+look_shows x learned r at s t z h =
+    let c : Contents = s.disk.brick x.holder.0 in
+    ap is_shown (row_reply s t _ r h.moved z) ∙ brick_shows (dir c.store x.location.directory) (λ y. given.Look (look_of c.store (entry_at x.location) y)) c
+
+pub again_survey : (c : LookupCall) (l : Location) (b : BrickNo) (ranges : List (Option Range)) (r : Reply) (at : ℕ) (s t : Scene) → c ≡ Surveying l b ranges → fault_of r ≡ None → is_shown r ≡ false → Served (lookup_stage c) r at s t → GoesOn (lookup_stage c) (lookup_stage (Surveying l b ranges)) r t
+again_survey c l b ranges r at s t e z k =
+    subst (λ (i : LookupCall). Served (lookup_stage i) r at s t → GoesOn (lookup_stage i) (lookup_stage (Surveying l b ranges)) r t) (sym e)
+    (λ h. absurd (both (is_shown r) (survey_shown l b ranges r at s t z h) k))
+
+pub again_look : (c : LookupCall) (x : Sought) (learned : Option (List (Option Range))) (r : Reply) (at : ℕ) (s t : Scene) → c ≡ LookingAtHolder x learned → fault_of r ≡ None → is_shown r ≡ false → Served (lookup_stage c) r at s t → GoesOn (lookup_stage c) (lookup_stage (LookingAtHolder x learned)) r t
+again_look c x learned r at s t e z k =
+    subst (λ (i : LookupCall). Served (lookup_stage i) r at s t → GoesOn (lookup_stage i) (lookup_stage (LookingAtHolder x learned)) r t) (sym e)
+    (λ h. absurd (both (is_shown r) (look_shows x learned r at s t z h) k))
+
+-- ---- the file that the holder shows
+
+-- a name's main part, where it is a file, tells what the tree has
+here_some : {A : Type 0} (v w : A) (a b : ℕ) → here (Some v) a b ≡ Some w → v ≡ w
+here_some {A} v w a b h = by (nat_eq b a) h
+  where
+    by : (x : Bool) → (if x then Some v else None) ≡ Some w → v ≡ w
+    by true e = cc
+    by false e = absurd (let z : None ≡ Some w = e in cc)
+
+no_file_on : (x : Bool) (g f : Gfid) (over : Option BrickNo) → when_on x (main.Dir g) ≡ Some (main.File f over) → ⊥
+no_file_on true g f over e = let z : Some (main.Dir g) ≡ Some (main.File f over) = e in cc
+no_file_on false g f over e = let z : None ≡ Some (main.File f over) = e in cc
+
+same_file : (x f : Gfid) (o over : Option BrickNo) (a b : ℕ) → here (Some (main.File x o)) a b ≡ Some (main.File f over) → x ≡ f
+same_file x f o over a b h = let z : main.File x o ≡ main.File f over = here_some (main.File x o) (main.File f over) a b h in cc
+
+file_node : (h : NameShape) (i : ℕ) (f : Gfid) (over : Option BrickNo) → main_at h i ≡ Some (main.File f over) → node_of h ≡ Some (IsFile f)
+file_node Bare i f over e = absurd (let z : None ≡ Some (main.File f over) = e in cc)
+file_node (Folder g on) i f over e = absurd (no_file_on (on i) g f over e)
+file_node (Plain b x) i f over e = ap (λ g. Some (IsFile g)) (same_file x f None over b i e)
+file_node (Marked b x y) i f over e = ap (λ g. Some (IsFile g)) (same_file x f (Some y) over b i e)
+file_node (Contested b x y g) i f over e = ap (λ g. Some (IsFile g)) (same_file x f (Some y) over b i e)
+file_node (Standing x g) i f over e = absurd (let z : None ≡ Some (main.File f over) = e in cc)
+file_node (Copied b x d) i f over e = ap (λ g. Some (IsFile g)) (same_file x f None over b i e)
+file_node (Committed d x) i f over e = absurd (let z : None ≡ Some (main.File f over) = e in cc)
+
+-- a linkto shows no file, so a name's file is its core's
+file_visible : (m : Option Main) (f : Gfid) → file_of_main m ≡ Some f → (over : Option BrickNo) × (visible m ≡ Some (main.File f over))
+file_visible None f e = absurd (let z : None ≡ Some f = e in cc)
+file_visible (Some (main.Dir g)) f e = absurd (let z : None ≡ Some f = e in cc)
+file_visible (Some (main.Linkto v)) f e = absurd (let z : None ≡ Some f = e in cc)
+file_visible (Some (main.File x over)) f e = (over, let z : x ≡ f = cc in ap (λ g. Some (main.File g over)) z)
+
+-- so a file that some brick has at a name is the tree's
+pub shown_node : (s : Scene) (e : Entry) (b : ℕ) (f : Gfid) → Sound s → b < s.disk.count → file_in (slot_at s.disk b e) ≡ Some f → s.history.tree.names e ≡ Some (IsFile f)
+shown_node s e b f sound there h =
+    let n = sound.kept.things.names e in
+    let v = file_visible (slot_at s.disk b e).main f h in
+    n.1.node ∙ file_node n.0 b f v.0 (sym (ap (λ p. p.main) (n.1.has b there)) ∙ v.1)
 
 -- a tree that has the file says so
 says_found : (p : Tree) (d : Gfid) (n : List ℕ) (f g : Gfid) → p.dirs d ≡ true → p.names (d, n) ≡ Some (IsFile f) → answer_of (says p (Lookup d n) g) ≡ Some (File f)
 says_found p d n f g e k = ap (λ b. answer_of (if b then looked_up (p.names (d, n)) else Refuse Estale)) e ∙ ap (λ o. answer_of (looked_up o)) k
 
--- the file that the holder shows is the name's
-found_step : (x : Sought) (f : Gfid) (r : Reply) (at : ℕ) (s t : Scene) → is_no_memory r ≡ false → file_shown r ≡ Some f → Sound s → Sound t → at ≡ t.history.size → Seeks x s → Guarantee s (lookup_asks (LookingAtHolder x)) r t → MayAnswer (record { answer = File f; at = Some at }) t
-found_step x f r at s t z found sound after e k m =
+-- a reply that shows a file is no fault
+shown_sound : (r : Reply) (f : Gfid) → file_shown r ≡ Some f → fault_of r ≡ None
+shown_sound (reply.Ok g) f e = refl
+shown_sound (reply.Refused w) f e = refl
+shown_sound (reply.Wait c) f e = refl
+shown_sound reply.Down f e = absurd (let z : None ≡ Some f = e in cc)
+shown_sound reply.Failed f e = absurd (let z : None ≡ Some f = e in cc)
+shown_sound reply.NoMemory f e = absurd (let z : None ≡ Some f = e in cc)
+
+found_step : (x : Sought) (learned : Option (List (Option Range))) (f : Gfid) (r : Reply) (at : ℕ) (s t : Scene) → file_shown r ≡ Some f → Served (lookup_stage (LookingAtHolder x learned)) r at s t → EndsIn (lookup_stage (LookingAtHolder x learned)) (answered (found_at f at)) t
+found_step x learned f r at s t found h =
     let l : Location = x.location in
-    let p : Place = record { brick = x.holder; file = f } in
-    let bricks = bricks_are l s sound k.fresh.place in
+    let k : Seeks x s = h.is_at.knows in
+    let m = h.moved in
+    let e : Entry = entry_at l in
+    let bricks = bricks_are l s h.before k.fresh.place in
     let within = k.within in
-    let count = m.disk.count in
     let there : x.holder.0 < s.disk.count = omega arith in
-    let there_then : x.holder.0 < t.disk.count = omega arith in
-    let shown : file_shown r ≡ name_at s.disk x.holder.0 (entry_at l) = look_shown l.directory l.name x.holder s t r sound k.fresh.place.root there z m in
-    let here : name_at t.disk x.holder.0 (entry_at l) ≡ Some f = ap file_in (slot_moved s t _ r m tt (entry_at l) x.holder.0) ∙ (sym shown ∙ found) in
-    let node : t.history.tree.names (entry_at l) ≡ Some (IsFile f) = node_is t (entry_at l) (Some p) after (there_then, here) in
-    let saw = saw_now l (Some p) at t after k.fresh.place.root e node in
+    let shown = look_shown l.directory l.name x.holder s t r h.before k.fresh.place.root there (shown_sound r f found) m in
+    let node : s.history.tree.names e ≡ Some (IsFile f) = shown_node s e x.holder.0 f h.before there (sym shown ∙ found) in
+    let begun = h.after.begun in
+    let line = h.line in
+    let now : t.history.past at ≡ s.history.tree = ap t.history.past line ∙ (h.after.kept.point ∙ tree_quiet s t _ r tt m) in
     let deeds : t.mine.deeds ≡ None = deeds_quiet s t _ r tt m ∙ k.fresh.deeds in
-    let call : t.mine.call ≡ Lookup l.directory l.name = m.call ∙ k.call in
-    record {
+    let call : t.mine.call ≡ Lookup l.directory l.name = m.mine.call ∙ k.call in
+    free_ends _ (found_at f at) r at s t refl (record {
       point = at;
       printed = refl;
-      after = saw.after;
-      before = saw.before;
+      after = omega arith;
+      before = omega arith;
       tells = subst (λ (o : Option Deeds). Tells t.history t.mine.call o at (File f)) (sym deeds)
-          (λ (g : Gfid). ap (λ (o : Call). answer_of (says (t.history.past at) o g)) call ∙ says_found (t.history.past at) l.directory l.name f g saw.directory saw.node);
-    }
+          (λ (g : Gfid). ap (λ (o : Call). answer_of (says (t.history.past at) o g)) call
+          ∙ (ap (λ (p : Tree). answer_of (says p (Lookup l.directory l.name) g)) now
+          ∙ says_found s.history.tree l.directory l.name f g (root_in_tree s l.directory h.before k.fresh.place.root) node));
+    }) h
 
-pub take_found : (c : LookupCall) (x : Sought) (f : Gfid) (r : Reply) (at : ℕ) (s t : Scene) → c ≡ LookingAtHolder x → is_no_memory r ≡ false → file_shown r ≡ Some f → Sound s → Sound t → at ≡ t.history.size → LookupKnows c s → Guarantee s (lookup_asks c) r t → MayAnswer (record { answer = File f; at = Some at }) t
-take_found c x f r at s t e z found sound after ea h mv = found_step x f r at s t z found sound after ea (rw e at h) (rw e at mv)
+pub take_found : (c : LookupCall) (x : Sought) (learned : Option (List (Option Range))) (f : Gfid) (a : Finish) (r : Reply) (at : ℕ) (s t : Scene) → c ≡ LookingAtHolder x learned → a ≡ found_at f at → file_shown r ≡ Some f → Served (lookup_stage c) r at s t → EndsIn (lookup_stage c) (answered a) t
+take_found c x learned f a r at s t e k found =
+    subst (λ (i : LookupCall). Served (lookup_stage i) r at s t → EndsIn (lookup_stage i) (answered a) t) (sym e)
+    (subst (λ (i : Finish). Served (lookup_stage (LookingAtHolder x learned)) r at s t → EndsIn (lookup_stage (LookingAtHolder x learned)) (answered i) t) (sym k) (found_step x learned f r at s t found))
 
--- the section's own step
-pub record SectionRuns (m : Section) (s : Scene) (r : Reply) (t : Scene) : Type 0 where
-  pub knows : SectionKnows m s
-  pub moved : Guarantee s (section_asks m) r t
-  pub call : IsLookup (section_location m) t
+-- ---- the section
 
-pub section_runs : (c : LookupCall) (m : Section) (r : Reply) (s t : Scene) → c ≡ Securing m → LookupKnows c s → Guarantee s (lookup_asks c) r t → SectionRuns m s r t
-section_runs c m r s t e h mv =
-    let k : SecuresLookup m s = rw e at h in
-    let v : Guarantee s (section_asks m) r t = rw e at mv in
-    record { knows = k.section; moved = v; call = v.call ∙ k.call }
+-- what was found on all bricks, the lookup answers
+held_says : (p : Tree) (l : Location) (found : Option Place) (g : Gfid) → p.dirs l.directory ≡ true → p.names (entry_at l) ≡ node_of (found_shape found) → answer_of (says p (Lookup l.directory l.name) g) ≡ Some (found_answer found)
+held_says p l None g e k = ap (λ b. answer_of (if b then looked_up (p.names (entry_at l)) else Refuse Estale)) e ∙ ap (λ o. answer_of (looked_up o)) k
+held_says p l (Some x) g e k = ap (λ b. answer_of (if b then looked_up (p.names (entry_at l)) else Refuse Estale)) e ∙ ap (λ o. answer_of (looked_up o)) k
+
+by_answer : (found : Option Place) (at : ℕ) (s : Scene) → HasPoint s.history s.mine (Some at) (found_answer found) → MayAnswer (record { answer = found_answer found; at = Some at }) s
+by_answer None at s h = h
+by_answer (Some p) at s h = h
+
+pub held_answer : (l : Location) (found : Option Place) (at : ℕ) (s : Scene) → IsLookup l s → IsFresh l s → SawAt l found at s → MayAnswer (record { answer = found_answer found; at = Some at }) s
+held_answer l found at s call fresh saw = by_answer found at s (record {
+  point = at;
+  printed = refl;
+  after = saw.after;
+  before = saw.before;
+  tells = subst (λ (o : Option Deeds). Tells s.history s.mine.call o at (found_answer found)) (sym fresh.deeds)
+      (λ (g : Gfid). ap (λ (o : Call). answer_of (says (s.history.past at) o g)) call ∙ held_says (s.history.past at) l found g saw.directory saw.node);
+})
+
+-- so after the section a lookup ends with the answer
+pub held_continues : (o : SectionOutcome) (h : Held) (a : Answer) (c : Closing) → o ≡ Holding h → a ≡ found_answer h.found → (closing_stage c).claims ≡ both_claimed h.location → (closing_stage c).variant ≤ 2 → ((s : Scene) → HasPlace h.location s → MayAnswer (record { answer = a; at = Some h.at }) s → (closing_stage c).knows s) → Continues (outcome_ending o) (λ s. IsLookup (outcome_location o) s) 2 (closing_stage c)
+held_continues o h a c e answer claims variant knows = subst (λ (i : SectionOutcome). Continues (outcome_ending i) (λ s. IsLookup (outcome_location i) s) 2 (closing_stage c)) (sym e) (record {
+  claims = claims;
+  variant = variant;
+  knows = λ s sound call k. knows s k.fresh.place (subst (λ (i : Answer). MayAnswer (record { answer = i; at = Some h.at }) s) (sym answer) (held_answer h.location h.found h.at s call k.fresh k.saw));
+})
 
 same_call : (l k : Location) (s : Scene) → k ≡ l → IsLookup l s → IsLookup k s
 same_call l k s e h = h ∙ ap (λ (x : Location). Lookup x.directory x.name) (sym e)
 
-pub take_section : (c : LookupCall) (m n : Section) (r : Reply) (s t : Scene) → c ≡ Securing m → SectionRuns m s r t → section_location n ≡ section_location m → SectionKnows n t × (section_variant n < section_variant m) → SecuresLookup n t × (section_variant n + 2 < lookup_variant c)
-take_section c m n r s t e q l h = (record { call = same_call (section_location m) (section_location n) t l q.call; section = h.0 }, let k = h.1 in rw e (omega arith))
+pub section_some : (m : Section) (s : Scene) → (section_stage m).knows s → 0 < (section_stage m).variant
+section_some (LockingDirectory l) s h = omega arith
+section_some (LockingName l) s h = omega arith
+section_some (Looking l b x) s h = let w = h.within in omega arith
 
-pub call_at : (l : Location) (m : Section) (r : Reply) (s t : Scene) → SectionRuns m s r t → l ≡ section_location m → IsLookup l t
-call_at l m r s t q e = same_call (section_location m) l t e q.call
+pub take_section : (c : LookupCall) (m n : Section) (learned : Option (List (Option Range))) (r : Reply) (at : ℕ) (s t : Scene) → c ≡ Securing m learned → section_location n ≡ section_location m → (Served (section_stage m) r at s t → GoesOn (section_stage m) (section_stage n) r t) → Served (lookup_stage c) r at s t → GoesOn (lookup_stage c) (lookup_stage (Securing n learned)) r t
+take_section c m n learned r at s t e l f =
+    subst (λ (i : LookupCall). Served (lookup_stage i) r at s t → GoesOn (lookup_stage i) (lookup_stage (Securing n learned)) r t) (sym e)
+    (λ h. part_goes_on (section_stage m) (section_stage n) 2 (λ s. IsLookup (section_location m) s) (λ s. IsLookup (section_location n) s) r t (f (part_served (section_stage m) 2 (λ s. IsLookup (section_location m) s) r at s t h)) (same_call (section_location m) (section_location n) t l (h.moved.mine.call ∙ h.is_at.knows.1)))
 
-pub take_outcome : (c : LookupCall) (m : Section) (d : Closing) (r : Reply) (s t : Scene) → c ≡ Securing m → SectionRuns m s r t → ClosingKnows d t → ClosingKnows d t × (closing_variant d < lookup_variant c)
-take_outcome c m d r s t e q h = (h, let a = section_goes_on m s q.knows in let b = closing_short d in rw e (omega arith))
+pub take_outcome : (c n : LookupCall) (m : Section) (learned : Option (List (Option Range))) (o : SectionOutcome) (r : Reply) (at : ℕ) (s t : Scene) → c ≡ Securing m learned → outcome_location o ≡ section_location m → (Served (section_stage m) r at s t → EndsIn (section_stage m) (outcome_ending o) t) → Continues (outcome_ending o) (λ s. IsLookup (outcome_location o) s) 2 (lookup_stage n) → Served (lookup_stage c) r at s t → GoesOn (lookup_stage c) (lookup_stage n) r t
+take_outcome c n m learned o r at s t e l f k =
+    subst (λ (i : LookupCall). Served (lookup_stage i) r at s t → GoesOn (lookup_stage i) (lookup_stage n) r t) (sym e)
+    (λ h. part_ends (section_stage m) (lookup_stage n) (outcome_ending o) 2 (λ s. IsLookup (section_location m) s) (λ s. IsLookup (outcome_location o) s) r t h.after (section_some m s h.is_at.knows.0) (f (part_served (section_stage m) 2 (λ s. IsLookup (section_location m) s) r at s t h)) (same_call (section_location m) (outcome_location o) t l (h.moved.mine.call ∙ h.is_at.knows.1)) k)
 
--- the closing's own step
-pub record ClosingRuns (d : Closing) (s : Scene) (r : Reply) (t : Scene) : Type 0 where
-  pub knows : ClosingKnows d s
-  pub moved : Guarantee s (closing_asks d) r t
+-- ---- the closing
 
-pub closing_runs : (c : LookupCall) (d : Closing) (r : Reply) (s t : Scene) → c ≡ Ending d → LookupKnows c s → Guarantee s (lookup_asks c) r t → ClosingRuns d s r t
-closing_runs c d r s t e h mv = record { knows = rw e at h; moved = rw e at mv }
+pub take_closing : (c : LookupCall) (d n : Closing) (learned : Option (List (Option Range))) (r : Reply) (at : ℕ) (s t : Scene) → c ≡ Ending d learned → (Served (closing_stage d) r at s t → GoesOn (closing_stage d) (closing_stage n) r t) → Served (lookup_stage c) r at s t → GoesOn (lookup_stage c) (closing_stage n) r t
+take_closing c d n learned r at s t e g = subst (λ (i : LookupCall). Served (lookup_stage i) r at s t → GoesOn (lookup_stage i) (closing_stage n) r t) (sym e) g
 
-pub take_closing : (c : LookupCall) (d n : Closing) (t : Scene) → c ≡ Ending d → ClosingKnows n t × (closing_variant n < closing_variant d) → ClosingKnows n t × (closing_variant n < lookup_variant c)
-take_closing c d n t e h = (h.0, rw e h.1)
+pub end_closing : (c : LookupCall) (d : Closing) (f : Finish) (learned : Option (List (Option Range))) (r : Reply) (at : ℕ) (s t : Scene) → c ≡ Ending d learned → (Served (closing_stage d) r at s t → EndsIn (closing_stage d) (answered f) t) → Served (lookup_stage c) r at s t → EndsIn (lookup_stage c) (answered f) t
+end_closing c d f learned r at s t e g = subst (λ (i : LookupCall). Served (lookup_stage i) r at s t → EndsIn (lookup_stage i) (answered f) t) (sym e) g

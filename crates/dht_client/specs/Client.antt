@@ -1,25 +1,29 @@
--- What a client asks and knows: what its running call does.
-use Rattle.std.specs.Prelude.{ℕ, ◌+◌, ◌*◌, Bool, true, false, is_some, nat_lt, ◌==◌, if◌then◌else◌, Option, Some, None, List, [], length}
+-- Where a client is: where its running call is.
+use Rattle.std.specs.Prelude.{ℕ, ◌+◌, ◌*◌, ◌≡◌, Bool, true, false, is_some, nat_lt, ◌==◌, if◌then◌else◌, Option, Some, None, MatchOption, List, [], ◌∷◌, length}
 use Rattle.dht_types.specs.Gfid.{root, anchor}
+use Rattle.dht_types.specs.declared.errors.Errno.{Errno}
 use Rattle.dht_types.specs.declared.identifiers.Gfid.{Gfid}
 use Rattle.dht_types.specs.declared.identifiers.CallNo.{CallNo}
 use Rattle.dht_types.specs.declared.identifiers.ClientNo.{ClientNo}
 use Rattle.dht_types.specs.declared.calls.Call.{Call}
 use Rattle.dht_types.specs.declared.calls.Call.TheVariants.{Lookup, Create}
-use Rattle.dht_types.specs.declared.locks.Key.{Key}
 use Rattle.dht_types.specs.declared.locks.Key.TheVariants.{Dir}
 use Rattle.dht_types.specs.declared.locks.Mode.TheVariants.{Shared}
 use Rattle.dht_brick.specs.declared.requests.NameRequest.TheVariants.{Look, Dirinfo}
+use Rattle.dht_brick.specs.declared.requests.Request.{Request}
 use Rattle.dht_brick.specs.declared.requests.Request.TheVariants.{Lock, OnNames}
 use Rattle.dht_brick.specs.declared.replies.Reply.{Reply}
-use Rattle.dht_section.specs.declared.machine.Ask.{Ask}
-use Rattle.dht_section.specs.Scene.{Scene}
 use Rattle.dht_xattr.specs.declared.range.Range.{Range}
-use Rattle.dht_client.specs.Layout.{holder_in}
-use Rattle.dht_client.specs.Program.{program_asks, program_variant, program_locks, program_starved, program_taught, ProgramKnows}
+use Rattle.dht_section.specs.Claims.{Claim, no_claim, claims_locks}
+use Rattle.dht_section.specs.Shapes.{either}
+use Rattle.dht_section.specs.Stages.{Stage}
+use Rattle.dht_section.specs.declared.machine.Ask.{Ask}
+use Rattle.dht_section.specs.declared.machine.Finish.{Finish}
 use Rattle.dht_section.specs.declared.section.Location.{Location}
-use Rattle.dht_client.specs.Lookup.{first_lookup}
 use Rattle.dht_client.specs.Create.{first_create}
+use Rattle.dht_client.specs.Layout.{holder_in}
+use Rattle.dht_client.specs.Lookup.{first_lookup}
+use Rattle.dht_client.specs.Program.{program_stage, program_fault, program_layout, program_taught}
 use Rattle.dht_client.specs.declared.program.Program.{Program}
 use Rattle.dht_client.specs.declared.program.Program.TheVariants.{LookingUp, Creating}
 use Rattle.dht_client.specs.declared.calling.Client.{Client}
@@ -27,7 +31,7 @@ use Rattle.dht_client.specs.declared.calling.Client.{Client}
 abbrev pub client_number : Client → ClientNo
 client_number c = c.number
 
--- the layout of the root that it has read, if it has read one
+-- the layout of the root that it knows, if it knows it
 abbrev pub client_layout : Client → Option (List (Option Range))
 client_layout c = c.layout
 
@@ -35,51 +39,46 @@ abbrev pub client_is_busy : Client → Bool
 client_is_busy c = is_some c.pending
 
 -- an idle client asks for nothing, so what stands there for it does not matter
-abbrev pub asked : Option Program → Ask
-asked None = record { brick = record { 0 = 0 }; request = OnNames (Dirinfo root) }
-asked (Some m) = program_asks m
+abbrev pub running_stage : Option Program → Stage
+running_stage None = record {
+  asks = record { brick = record { 0 = 0 }; request = OnNames (Dirinfo root) };
+  claims = no_claim;
+  variant = 0;
+  knows = λ s. Unit {0};
+}
+running_stage (Some m) = program_stage m
 
-abbrev pub client_asks : Client → Ask
-client_asks c = asked c.pending
+abbrev pub client_stage : Client → Stage
+client_stage c = running_stage c.pending
 
-abbrev pub still_left : Option Program → ℕ
-still_left None = 0
-still_left (Some m) = program_variant m
+abbrev pub running_fault : Option Program → Option Errno
+running_fault None = None
+running_fault (Some m) = program_fault m
 
--- how many requests its call still sends at most
-abbrev pub client_variant : Client → ℕ
-client_variant c = still_left c.pending
+-- the error of a brick that ended its call
+abbrev pub client_fault : Client → Option Errno
+client_fault c = running_fault c.pending
 
-abbrev pub locks_of : Option Program → List Key
-locks_of None = []
-locks_of (Some m) = program_locks m
+abbrev pub running_learned : Option Program → Option (List (Option Range))
+running_learned None = None
+running_learned (Some m) = program_layout m
 
--- the locks that its call asked for and has not given back, the last first
-abbrev pub client_locks : Client → List Key
-client_locks c = locks_of c.pending
+-- the layout that its call has learned
+abbrev pub client_learned : Client → Option (List (Option Range))
+client_learned c = running_learned c.pending
 
-abbrev pub is_starved : Option Program → Bool
-is_starved None = false
-is_starved (Some m) = program_starved m
+abbrev pub running_taught : Option Program → Reply → Option (List (Option Range))
+running_taught None r = None
+running_taught (Some m) r = program_taught m r
 
--- its call was stopped because memory ran out
-abbrev pub client_starved : Client → Bool
-client_starved c = is_starved c.pending
-
-abbrev pub taught_by : Option Program → Reply → Option (List (Option Range))
-taught_by None r = None
-taught_by (Some m) r = program_taught m r
-
--- the layout that its call has read by this reply, if every brick has shown its range now
+-- and that a reply teaches the call: by this reply every brick has shown its range
 abbrev pub client_taught : Client → Reply → Option (List (Option Range))
-client_taught c r = taught_by c.pending r
+client_taught c r = running_taught c.pending r
 
-abbrev pub RunningKnows : Option Program → Scene → Type 0
-RunningKnows None s = Unit {0}
-RunningKnows (Some m) s = ProgramKnows m s
-
-abbrev pub ClientKnows : Client → Scene → Type 0
-ClientKnows c s = RunningKnows c.pending s
+-- a call learns the layout that a reply teaches, and its client knows it from its end on
+pub record CallLearns (old : Client) (r : Reply) (answer : Option Finish) (new : Client) : Type 0 where
+  pub learns : MatchOption answer (client_learned new ≡ either (client_taught old r) (client_learned old)) (λ f. Unit {0})
+  pub knows : MatchOption answer (client_layout new ≡ client_layout old) (λ f. client_layout new ≡ either (client_learned old) (client_layout old))
 
 -- the name of a call
 abbrev pub place_at : Gfid → List ℕ → List ℕ → Location
@@ -104,6 +103,14 @@ abbrev pub first_ask : Option (List (Option Range)) → List ℕ → Call → As
 first_ask (Some ranges) ws (Lookup d n) = first_look d n ws (holder_in ranges n)
 first_ask None ws (Lookup d n) = record { brick = record { 0 = 0 }; request = OnNames (Dirinfo d) }
 first_ask known ws (Create d n) = first_lock d ws
+
+-- what a call claims whose first request is this: the lock, if it asks for one
+abbrev pub claimed_by : (brick : ℕ) → Request → Claim
+claimed_by b (Lock key mode) = claims_locks (record { brick = b; key = key } ∷ [])
+claimed_by b q = no_claim
+
+abbrev pub first_claim : Ask → Claim
+first_claim a = claimed_by a.brick.0 a.request
 
 -- how many requests a call sends at most, over so many bricks, by a client that knows the layout or does not
 abbrev pub most_steps : Bool → ℕ → Call → ℕ

@@ -1,7 +1,11 @@
+pub mod Ended
+pub mod Parts
+pub mod PartLaws
 pub mod Layout
-pub mod LayoutLaws
+pub mod HeldLaws
 pub mod Found
-pub mod Memory
+pub mod Again
+pub mod Faults
 pub mod Lookup
 pub mod LookupLaws
 pub mod Create

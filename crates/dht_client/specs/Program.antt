@@ -1,36 +1,29 @@
--- What a program asks and knows: what its call does. These do not unfold by themselves, so that no proof above looks into a call.
-use Rattle.std.specs.Prelude.{ℕ, Bool, Option, List}
-use Rattle.dht_types.specs.declared.locks.Key.{Key}
+-- Where a program is: where its call is. These do not unfold by themselves, so that no proof above looks into a call.
+use Rattle.std.specs.Prelude.{Option, List}
+use Rattle.dht_types.specs.declared.errors.Errno.{Errno}
 use Rattle.dht_brick.specs.declared.replies.Reply.{Reply}
-use Rattle.dht_section.specs.declared.machine.Ask.{Ask}
 use Rattle.dht_xattr.specs.declared.range.Range.{Range}
-use Rattle.dht_section.specs.Scene.{Scene}
-use Rattle.dht_client.specs.Lookup.{lookup_asks, lookup_variant, lookup_taught, lookup_locks, lookup_starved, LookupKnows}
-use Rattle.dht_client.specs.Create.{create_asks, create_variant, create_taught, create_locks, create_starved, CreateKnows}
+use Rattle.dht_section.specs.Stages.{Stage}
+use Rattle.dht_client.specs.Lookup.{lookup_stage, lookup_fault, lookup_layout, lookup_taught}
+use Rattle.dht_client.specs.Create.{create_stage, create_fault, create_layout, create_taught}
 use Rattle.dht_client.specs.declared.program.Program.{Program}
 use Rattle.dht_client.specs.declared.program.Program.TheVariants.{LookingUp, Creating}
 
-unfoldable pub program_asks : Program → Ask
-program_asks (LookingUp m) = lookup_asks m
-program_asks (Creating m) = create_asks m
+unfoldable pub program_stage : Program → Stage
+program_stage (LookingUp m) = lookup_stage m
+program_stage (Creating m) = create_stage m
 
-unfoldable pub program_variant : Program → ℕ
-program_variant (LookingUp m) = lookup_variant m
-program_variant (Creating m) = create_variant m
+-- the error of a brick that ended the call
+unfoldable pub program_fault : Program → Option Errno
+program_fault (LookingUp m) = lookup_fault m
+program_fault (Creating m) = create_fault m
 
-unfoldable pub program_locks : Program → List Key
-program_locks (LookingUp m) = lookup_locks m
-program_locks (Creating m) = create_locks m
+-- the layout that it has learned
+unfoldable pub program_layout : Program → Option (List (Option Range))
+program_layout (LookingUp m) = lookup_layout m
+program_layout (Creating m) = create_layout m
 
-unfoldable pub program_starved : Program → Bool
-program_starved (LookingUp m) = lookup_starved m
-program_starved (Creating m) = create_starved m
-
--- the layout of the directory, where every brick has shown its range by this reply
+-- and that a reply teaches it: by this reply every brick has shown its range
 unfoldable pub program_taught : Program → Reply → Option (List (Option Range))
 program_taught (LookingUp m) r = lookup_taught m r
 program_taught (Creating m) r = create_taught m r
-
-unfoldable pub ProgramKnows : Program → Scene → Type 0
-ProgramKnows (LookingUp m) s = LookupKnows m s
-ProgramKnows (Creating m) s = CreateKnows m s

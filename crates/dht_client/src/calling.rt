@@ -1,18 +1,17 @@
 //! A client: the program of its running call, if there is one, and what it has learned.
 
-ghost use Rattle.std.specs.Prelude.{◌≡◌, ◌<◌, ◌≤◌, ◌^◌, ◌||◌, ℕ, Bool, true, false, not, is_none, is_some, [], None, Some, length};
-ghost use Rattle.dht_types.specs.Cost.{cost};
-ghost use Rattle.dht_section.specs.Scene.{Scene};
-ghost use Rattle.dht_section.specs.Turns.{CallMoves};
-ghost use Rattle.dht_types.specs.declared.identifiers.Gfid.{Gfid as AGfid};
-ghost use Rattle.dht_client.specs.Found.{ShowsFile, found_at};
-ghost use Rattle.dht_section.specs.Begins.{Begins};
+ghost use Rattle.std.specs.Prelude.{◌≡◌, ◌≤◌, ◌^◌, ◌<◌, true, false, is_none, is_some, None, Some, length};
 ghost use Rattle.dht_types.specs.Calls.{IsInRoot};
-ghost use Rattle.dht_section.specs.Section.{LocksBy};
-ghost use Rattle.dht_client.specs.Memory.{CallNotesMemory};
-ghost use Rattle.dht_client.specs.Client.{client_asks, client_is_busy, client_variant, client_locks, client_number, client_starved, client_layout, client_taught, first_ask, first_program, most_steps, ClientKnows};
-ghost use Rattle.dht_client.specs.Layout.{learned};
+ghost use Rattle.dht_types.specs.Cost.{cost};
+ghost use Rattle.dht_types.specs.declared.identifiers.Gfid.{Gfid as AGfid};
+ghost use Rattle.dht_section.specs.Begins.{Begins};
+ghost use Rattle.dht_section.specs.Scene.{Scene};
+ghost use Rattle.dht_section.specs.Stages.{CallMoves};
+ghost use Rattle.dht_client.specs.Client.{CallLearns, client_fault, client_is_busy, client_layout, client_learned, client_number, client_stage, first_ask, first_claim, first_program, most_steps};
 ghost use Rattle.dht_client.specs.ClientLaws.{client_goes_on, client_permitted, client_stable};
+ghost use Rattle.dht_client.specs.Again.{IsUnanswered};
+ghost use Rattle.dht_client.specs.Faults.{CallNotesFault};
+ghost use Rattle.dht_client.specs.Found.{ShowsFile, found_at};
 
 use super::create::{CreateCall, Origin};
 use super::layout::learn;
@@ -89,11 +88,7 @@ impl Caller for Client {
 
     ghost is_busy = { client_is_busy };
 
-    ghost asks = { client_asks };
-
-    ghost knows = { ClientKnows };
-
-    ghost variant = { client_variant };
+    ghost stage = { client_stage };
 
     fn is_idle(&self) -> bool {
         self.pending.is_none()
@@ -107,16 +102,19 @@ impl Caller for Client {
         ensures number { client_number self.new ≡ client_number self.old }
         ensures knows { (s : Scene)
             → Begins (client_number self.old) weights.now run call what.now s
-            → ClientKnows self.new s }
-        ensures variant { client_variant self.new ≤ cost (length weights.now) what.now }
+            → (client_stage self.new).knows s }
+        ensures variant { (client_stage self.new).variant ≤ cost (length weights.now) what.now }
+        ensures copy { (client_stage self.new).claims.copy ≡ None }
         // a client that knows the layout looks at the holder first
-        ensures asks { client_asks self.new
+        ensures asks { (client_stage self.new).asks
             ≡ first_ask (client_layout self.old) weights.now what.now }
-        ensures steps { client_variant self.new
+        // it claims the lock that it asks for first, if it asks for one
+        ensures claims { (client_stage self.new).claims ≡ first_claim (client_stage self.new).asks }
+        ensures steps { (client_stage self.new).variant
             ≤ most_steps (is_some (client_layout self.old)) (length weights.now) what.now }
         ensures layout { client_layout self.new ≡ client_layout self.old }
-        ensures locks { client_locks self.new ≡ [] }
-        ensures memory { client_starved self.new ≡ false }
+        ensures learned { client_learned self.new ≡ None }
+        ensures fault { client_fault self.new ≡ None }
     {
         self.pending = Some(self.program(weights, run, call, what));
     }
@@ -131,34 +129,31 @@ impl Caller for Client {
     fn take(&mut self, reply: Reply, at: u64) -> Option<Finish>
         requires { client_is_busy self.old ≡ true }
         ensures number { client_number self.new ≡ client_number self.old }
-        ensures moves { CallMoves client_is_busy client_asks ClientKnows client_variant
-            self.old self.new reply at result }
+        ensures moves { CallMoves client_is_busy client_stage self.old self.new reply at result }
         ensures busy { client_is_busy self.new ≡ is_none result }
-        // it learns the layout of the root when every brick has shown its range
-        ensures layout { client_layout self.new
-            ≡ learned (client_layout self.old) (client_taught self.old reply) }
-        // a call that answers has given back each lock that it asked for
-        ensures locks { LocksBy (client_asks self.old).request (client_locks self.old)
-            (client_locks self.new) }
-        // a call answers Enomem exactly where a brick had no memory for a request of it
-        ensures memory { CallNotesMemory (client_starved self.old) (client_starved self.new)
-            (client_asks self.old).request reply result }
+        // a call that has read the range of every brick leaves its client the layout
+        ensures layout { CallLearns self.old reply result self.new }
+        // a call answers Enotconn, Eio or Enomem exactly where a brick was down, failed or had no
+        // memory for a request of it; the first such brick decides
+        ensures fault { CallNotesFault (client_fault self.old) (client_fault self.new)
+            (client_stage self.old).asks.request reply result }
         // a file that the name's holder shows is answered at once
-        ensures found { (f : AGfid)
-            → ShowsFile (client_asks self.old).request (client_locks self.old) reply f
+        ensures found { (f : AGfid) → ShowsFile (client_stage self.old) reply f
             → result ≡ Some (found_at f at) }
+        // a request that has no answer is sent again
+        ensures again { IsUnanswered (client_stage self.old) reply → self.new ≡ self.old }
     {
         match self.pending.take() {
-            Some(program) => {
-                learn(&mut self.layout, program.taught(&reply));
-                match program.take(reply, at) {
-                    Turn::Go(program) => {
-                        self.pending = Some(program);
-                        None
-                    }
-                    Turn::Done(finish) => Some(finish),
+            Some(program) => match program.take(reply, at) {
+                Turn::Go(program) => {
+                    self.pending = Some(program);
+                    None
                 }
-            }
+                Turn::Done(end) => {
+                    learn(&mut self.layout, end.layout);
+                    Some(end.finish)
+                }
+            },
             None => None,
         }
     }

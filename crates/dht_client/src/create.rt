@@ -1,20 +1,26 @@
 //! Create: under the locks of its name, a call that makes a file where no brick has one.
 
-ghost use Rattle.std.specs.Prelude.{◌≡◌, ◌<◌, ◌≤◌, ◌||◌, ℕ, false, [], None, option_map, unwrap_or};
-ghost use Rattle.dht_section.specs.Scene.{Scene, Sound, MayAnswer};
-ghost use Rattle.dht_section.specs.Turns.{Moves};
-ghost use Rattle.dht_section.specs.Section.{LocksFollow, OutcomeFact, outcome_location, outcome_locks, is_stopped};
-ghost use Rattle.dht_section.specs.Closing.{ClosingKnows, closing_finish, closing_locks};
-ghost use Rattle.dht_client.specs.Memory.{NotesMemory};
-ghost use Rattle.dht_client.specs.Create.{ComesOf, create_asks, create_variant, create_locks, create_starved, create_taught, first_create, new_file, CreateKnows};
+ghost use Rattle.std.specs.Prelude.{◌≡◌, None, option_map, unwrap_or};
+ghost use Rattle.dht_section.specs.Stages.{Moves};
+ghost use Rattle.dht_brick.specs.declared.replies.Reply.{Reply as AReply};
+ghost use Rattle.dht_section.specs.Replies.{fault_of};
+ghost use Rattle.dht_section.specs.Section.{outcome_ending, outcome_fault, outcome_layout, outcome_location};
+ghost use Rattle.dht_section.specs.declared.machine.Turn.TheVariants as turn;
+ghost use Rattle.dht_client.specs.Again.{IsUnanswered};
+ghost use Rattle.dht_client.specs.Ended.{ended};
+ghost use Rattle.dht_client.specs.Faults.{NotesFault};
+ghost use Rattle.dht_client.specs.Layout.{Learns};
+ghost use Rattle.dht_client.specs.Parts.{Continues};
+ghost use Rattle.dht_client.specs.Create.{ComesOf, create_fault, create_layout, create_stage, create_taught, first_create, new_file};
 ghost use Rattle.dht_client.specs.CreateLaws.{create_permitted, create_stable};
 
+use super::ended::Ended;
 use dht_brick::replies::Reply;
 use dht_brick::requests::{NameRequest, Request};
-use dht_section::closing::{Closing, out_of_memory};
+use dht_section::closing::{Closing, fault_finish};
 use dht_section::machine::{Ask, Finish, Machine, Turn};
-use dht_section::replies::is_no_memory;
-use dht_section::section::{Location, Section, SectionOutcome};
+use dht_section::replies::{fault_of, is_carried};
+use dht_section::section::{Held, Location, Section, SectionOutcome};
 use dht_types::calls::Answer;
 use dht_types::errors::Errno;
 use dht_types::identifiers::{BrickNo, CallNo, ClientNo, Gfid};
@@ -42,9 +48,9 @@ pub enum CreateCall {
     Securing(Origin, Section),
     /// Both locks are held, no brick has the name, and the layout is known: the file goes to the
     /// name's holder.
-    Creating(NewFile, Location),
-    /// The answer is known.
-    Ending(Closing),
+    Creating(NewFile, Held),
+    /// The answer is known, and the layout, if it was read.
+    Ending(Closing, Option<Layout>),
 }
 
 impl Origin {
@@ -63,24 +69,26 @@ impl Origin {
 
 /// How a create goes on after its section.
 fn secured(origin: Origin, outcome: SectionOutcome) -> CreateCall
-    ensures knows { (s : Scene) → Sound s → ComesOf origin (outcome_location outcome) s
-        → OutcomeFact outcome s → CreateKnows result s }
-    ensures variant { create_variant result ≤ 3 }
-    ensures locks { create_locks result ≡ outcome_locks outcome }
-    ensures memory { create_starved result ≡ is_stopped outcome }
+    ensures continues { Continues (outcome_ending outcome)
+        (λ s. ComesOf origin (outcome_location outcome) s) 3 (create_stage result) }
+    ensures fault { (r : AReply) → outcome_fault outcome ≡ fault_of r
+        → create_fault result ≡ fault_of r }
+    ensures layout { create_layout result ≡ outcome_layout outcome }
 {
     match outcome {
         SectionOutcome::Held(held) => match held.found {
-            Some(_) => CreateCall::Ending(Closing::new(
-                held.location,
-                Finish {
+            Some(_) => {
+                let finish = Finish {
                     answer: Answer::Fault(Errno::Eexist),
                     at: Some(held.at),
-                },
-            )),
-            None => CreateCall::Creating(origin.new_file(held.holder()), held.location),
+                };
+                CreateCall::Ending(Closing::new(held.location, finish), Some(held.layout))
+            }
+            None => CreateCall::Creating(origin.new_file(held.holder()), held),
         },
-        SectionOutcome::Stopped(stopped) => CreateCall::Ending(Closing::of_stopped(stopped)),
+        SectionOutcome::Stopped(stopped) => {
+            CreateCall::Ending(Closing::of_stopped(stopped), None)
+        }
     }
 }
 
@@ -91,71 +99,69 @@ impl CreateCall {
     {
         CreateCall::Securing(origin, Section::new(location))
     }
-
-    /// The layout of the directory, where every brick has shown its range by this reply.
-    pub fn taught(&self, reply: &Reply) -> Option<Layout>
-        ensures { result ≡ create_taught self.now reply.now }
-    {
-        match self {
-            CreateCall::Securing(_, section) => section.taught(reply),
-            CreateCall::Creating(_, _) => None,
-            CreateCall::Ending(_) => None,
-        }
-    }
 }
 
 impl Machine for CreateCall {
-    type Done = Finish;
+    type Done = Ended;
 
-    ghost asks = { create_asks };
+    ghost stage = { create_stage };
 
-    ghost knows = { CreateKnows };
-
-    ghost variant = { create_variant };
-
-    ghost earned = { MayAnswer };
+    ghost ending = { ended };
 
     fn next(&self) -> Ask {
         match self {
             CreateCall::Securing(_, section) => section.next(),
-            CreateCall::Creating(new, location) => Ask {
+            CreateCall::Creating(new, held) => Ask {
                 brick: new.holder,
                 request: Request::OnNames(NameRequest::Create(
-                    location.directory,
-                    location.name,
+                    held.location.directory,
+                    held.location.name,
                     new.file,
                 )),
             },
-            CreateCall::Ending(closing) => closing.next(),
+            CreateCall::Ending(closing, _) => closing.next(),
         }
     }
 
-    fn take(self, reply: Reply, at: u64) -> Turn<CreateCall, Finish>
-        ensures moves { Moves create_asks CreateKnows create_variant MayAnswer
-            self reply at result }
-        ensures locks { LocksFollow create_locks (λ f. []) self
-            (create_asks self).request result }
-        ensures memory { NotesMemory create_starved self (create_asks self).request reply result }
+    fn take(self, reply: Reply, at: u64) -> Turn<CreateCall, Ended>
+        ensures moves { Moves create_stage ended self reply at result }
+        ensures layout { Learns create_layout create_taught self reply result }
+        ensures fault { NotesFault create_fault self (create_stage self).asks.request
+            reply result }
+        // a request that has no answer is sent again
+        ensures again { IsUnanswered (create_stage self) reply → result ≡ turn.Go self }
     {
         match self {
             CreateCall::Securing(origin, section) => match section.take(reply, at) {
                 Turn::Go(section) => Turn::Go(CreateCall::Securing(origin, section)),
                 Turn::Done(outcome) => Turn::Go(secured(origin, outcome)),
             },
-            CreateCall::Creating(new, location) => {
-                if is_no_memory(&reply) {
-                    Turn::Go(CreateCall::Ending(Closing::new(location, out_of_memory())))
-                } else {
-                    let finish = Finish {
-                        answer: Answer::Made(new.file),
-                        at: Some(at),
-                    };
-                    Turn::Go(CreateCall::Ending(Closing::new(location, finish)))
+            CreateCall::Creating(new, held) => match fault_of(&reply) {
+                Some(errno) => Turn::Go(CreateCall::Ending(
+                    Closing::new(held.location, fault_finish(errno)),
+                    Some(held.layout),
+                )),
+                None => {
+                    if is_carried(&reply) {
+                        let finish = Finish {
+                            answer: Answer::Made(new.file),
+                            at: Some(at),
+                        };
+                        Turn::Go(CreateCall::Ending(
+                            Closing::new(held.location, finish),
+                            Some(held.layout),
+                        ))
+                    } else {
+                        Turn::Go(CreateCall::Creating(new, held))
+                    }
                 }
-            }
-            CreateCall::Ending(closing) => match closing.take(reply, at) {
-                Turn::Go(closing) => Turn::Go(CreateCall::Ending(closing)),
-                Turn::Done(finish) => Turn::Done(finish),
+            },
+            CreateCall::Ending(closing, learned) => match closing.take(reply, at) {
+                Turn::Go(closing) => Turn::Go(CreateCall::Ending(closing, learned)),
+                Turn::Done(finish) => Turn::Done(Ended {
+                    finish,
+                    layout: learned,
+                }),
             },
         }
     }

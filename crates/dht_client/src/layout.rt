@@ -1,7 +1,8 @@
 //! Which brick a name belongs to, by a layout.
 
 ghost use Rattle.std.specs.Prelude.{◌≡◌, option_map};
-ghost use Rattle.dht_client.specs.Layout.{holder_in, learned};
+ghost use Rattle.dht_section.specs.Shapes.{either};
+ghost use Rattle.dht_client.specs.Layout.{holder_in};
 
 use dht_hash::dm_hash;
 use dht_types::identifiers::BrickNo;
@@ -16,12 +17,12 @@ pub fn holder_in(layout: &Layout, name: &Name) -> Option<BrickNo>
     holder(layout, dm_hash(name.as_bytes()))
 }
 
-/// What a client knows of the layout after a reply: the layout that the reply taught, if it taught
-/// one, or what it knew before.
-pub fn learn(known: &mut Option<Layout>, taught: Option<Layout>)
-    ensures { known.new ≡ learned known.old taught }
+/// What a client knows of the layout after a call: the layout that the call has learned, if it has
+/// learned one, or what the client knew before.
+pub fn learn(known: &mut Option<Layout>, learned: Option<Layout>)
+    ensures { known.new ≡ either learned known.old }
 {
-    if taught.is_some() {
-        *known = taught;
+    if learned.is_some() {
+        *known = learned;
     }
 }

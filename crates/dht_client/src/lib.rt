@@ -3,6 +3,7 @@
 
 mod calling;
 mod create;
+mod ended;
 mod layout;
 mod lookup;
 mod program;

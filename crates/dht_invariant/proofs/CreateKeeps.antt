@@ -15,15 +15,15 @@ use Rattle.dht_types.specs.declared.identifiers.BrickNo.{BrickNo}
 use Rattle.dht_brick.specs.Contents.{Contents, Opens, bare, slot, file}
 use Rattle.dht_brick.specs.OpenRows.{registrations, is_sealed}
 use Rattle.dht_brick.specs.Parts.{is_copy, is_dir, is_plain, is_standlink}
+use Rattle.dht_section.specs.Claims.{Claim, places_of}
 use Rattle.dht_section.specs.Disk.{Disk, slot_at, file_at, dir_at, holders}
 use Rattle.dht_section.specs.Files.{FileInvariant, RecordsAs, NamedAs}
-use Rattle.dht_section.specs.Invariant.{Things, no_places, ByBytes, ByRecord, BySeal}
+use Rattle.dht_section.specs.Invariant.{Things, ByBytes, ByRecord, BySeal}
 use Rattle.dht_invariant.specs.Makes.{Makes, IsNew}
 use Rattle.dht_section.specs.Names.{NameInvariant}
 use Rattle.dht_section.specs.Shapes.{Plain, FileShape, Gone, Live, Moving, Copying, Moved, here, core_at, body, either, main_brick}
 use Rattle.dht_section.specs.Views.{core, cores_of, links_to, view_of, dir_view}
-use Rattle.dht_invariant.proofs.Basics.{entry_cases, gfid_cases, none_some, other_some, not_true}
-use Rattle.dht_section.proofs.EarlyLaws.{nat_cases, here_at, here_off}
+use Rattle.dht_invariant.proofs.Basics.{nat_cases, entry_cases, gfid_cases, none_some, other_some, not_true, here_at, here_off}
 use Rattle.dht_invariant.proofs.Frames.{links_core, plain_core, dir_core, name_kept, file_kept, dir_kept, lock_kept, view_same, dir_view_same}
 
 -- where no brick has a record of it, a file is gone
@@ -48,7 +48,7 @@ no_forward b i n x {o} h k = elim (nat_cases i b) [
   | inr ne ↦ (let z : Some (stored.Forward n x) ≡ None = sym k ∙ (h ∙ here_off _ b i ne) in cc)
 ]
 
-module _ (d e : Disk) (t : Tree) (b : ℕ) (x : Entry) (f : Gfid) (top : ℕ) (m : Makes d e b x f) (n : IsNew d t x f) (k : Things d t top) where
+module _ (d e : Disk) (t : Tree) (b : ℕ) (x : Entry) (f : Gfid) (top : ℕ) (p : ℕ → Claim) (m : Makes d e b x f) (n : IsNew d t x f) (k : Things d t top p) where
   abbrev later : Tree
   later = applied (AddFile x.0 x.1 f) t
 
@@ -119,20 +119,20 @@ module _ (d e : Disk) (t : Tree) (b : ℕ) (x : Entry) (f : Gfid) (top : ℕ) (m
     | inr ne ↦ ap (λ (c : Contents). file c.store f) (m.framed.off i ne) ∙ (no_record i l ∙ sym (here_off (Some (stored.Live 0 [])) b i ne))
   ]
 
-  file_was : FileInvariant d.count top no_places (view_of d f) (t.bytes f)
+  file_was : FileInvariant d.count top (places_of p f) (view_of d f) (t.bytes f)
   file_was = k.files f
 
   was_gone : file_was.shape ≡ Gone
   was_gone = gone_of d.count (view_of d f).records file_was.shape file_was.records no_record
 
-  no_link : (i : ℕ) (y : Entry) → i < d.count → links_to f (slot_at d i y) ≡ true → ⊥
+  pub no_link : (i : ℕ) (y : Entry) → i < d.count → links_to f (slot_at d i y) ≡ true → ⊥
   no_link i y l h = (let q : main_brick Gone ≡ Some i = ap main_brick (sym was_gone) ∙ file_was.linked i y l h in let z : None ≡ Some i = q in cc)
 
   same_copies : (g : Gfid) (i : ℕ) (y : Entry) → is_copy g (slot_at e i y).standby ≡ is_copy g (slot_at d i y).standby
   same_copies g i y = slots_keep (λ (p : Slot). is_copy g p.standby) (ap (λ (p : Slot). is_copy g p.standby) m.slot) i y
 
   no_copy : (i : ℕ) (y : Entry) → i < d.count → is_copy f (slot_at d i y).standby ≡ false
-  no_copy = subst (λ (h : FileShape). NamedAs d.count (view_of d f) no_places h) was_gone file_was.names
+  no_copy = subst (λ (h : FileShape). NamedAs d.count (view_of d f) (places_of p f) h) was_gone file_was.names
 
   links_are : (i : ℕ) (y : Entry) → i < d.count → links_to f (slot_at e i y) ≡ true → i ≡ b
   links_are i y l h = elim (nat_cases i b) [
@@ -149,7 +149,7 @@ module _ (d e : Disk) (t : Tree) (b : ℕ) (x : Entry) (f : Gfid) (top : ℕ) (m
   within : (i : ℕ) → i < e.count → i < d.count
   within i l = subst (λ (c : ℕ). i < c) m.framed.count l
 
-  file_new : FileInvariant e.count top no_places (view_of e f) (Some [])
+  file_new : FileInvariant e.count top (places_of p f) (view_of e f) (Some [])
   file_new = record {
     shape = Live b 0 [];
     records = record { fits = subst (λ (c : ℕ). b < c) (sym m.framed.count) m.there; has = λ i l. ap body (record_new i (within i l)) ∙ body_here b 0 [] i };
@@ -176,11 +176,11 @@ module _ (d e : Disk) (t : Tree) (b : ℕ) (x : Entry) (f : Gfid) (top : ℕ) (m
       ∙ (not_true (same_gfid g f) (λ h. ne ((exact_gfid g f).0 h))
       ∙ sym (plain_core g (slot_at d b x).main ∙ ap (λ (s : Slot). is_plain g s.main) was_bare))
 
-  file_all : (g : Gfid) → FileInvariant e.count top no_places (view_of e g) (later.bytes g)
+  file_all : (g : Gfid) → FileInvariant e.count top (places_of p g) (view_of e g) (later.bytes g)
   file_all g = elim (gfid_cases g f) [
-    | inl q ↦ subst (λ (z : Gfid). FileInvariant e.count top no_places (view_of e z) (later.bytes z)) (sym q)
-        (subst (FileInvariant e.count top no_places (view_of e f)) (sym (put_same same_gfid exact_gfid t.bytes f (Some []))) file_new)
-    | inr ne ↦ file_kept d.count e.count top top no_places (view_of d g) (view_of e g) (t.bytes g) (later.bytes g) m.framed.count
+    | inl q ↦ subst (λ (z : Gfid). FileInvariant e.count top (places_of p z) (view_of e z) (later.bytes z)) (sym q)
+        (subst (FileInvariant e.count top (places_of p f) (view_of e f)) (sym (put_same same_gfid exact_gfid t.bytes f (Some []))) file_new)
+    | inr ne ↦ file_kept d.count e.count top top (places_of p g) (view_of d g) (view_of e g) (t.bytes g) (later.bytes g) m.framed.count
         (view_same d e g m.framed.count m.framed.opens (λ i. m.framed.files i g (other_some f g ne)) (slots_keep (links_to g) (links_other g ne)) (slots_keep (λ (p : Slot). is_plain g p.main) (unmarked_other g ne)) (same_copies g))
         (put_other same_gfid exact_gfid t.bytes f (Some []) g ne) (omega arith) (k.files g)
   ]
@@ -198,13 +198,13 @@ module _ (d e : Disk) (t : Tree) (b : ℕ) (x : Entry) (f : Gfid) (top : ℕ) (m
     | inr ne ↦ k.housed y i l (λ z. h (slot_other i y ne ∙ z))
   ]
 
-  pub create_keeps : Things e later top
+  pub create_keeps : Things e later top p
   create_keeps = record {
     names = name_all;
     files = file_all;
     dirs = λ g. dir_kept d.count e.count g (dir_view d g) (dir_view e g) (t.dirs g) (t.dirs g) m.framed.count
         (dir_view_same d e g same_dirs (slots_keep (λ (p : Slot). is_dir g p.main) (ap (λ (p : Slot). is_dir g p.main) m.slot ∙ sym (no_dir g (slot_at d b x) was_bare)))) refl (k.dirs g);
-    locks = λ i key l. lock_kept (holders d i key) (holders e i key) (ap (λ h. h key) (m.framed.locks i)) (k.locks i key (within i l));
+    locks = λ i key l. lock_kept i key (holders d i key) (holders e i key) p (ap (λ h. h key) (m.framed.locks i)) (k.locks i key (within i l));
     housed = λ y i l h. ap is_some (same_dirs i y.0) ∙ slot_housed i y (within i l) h;
     roots = λ i l. ap is_some (same_dirs i root) ∙ k.roots i (within i l);
   }

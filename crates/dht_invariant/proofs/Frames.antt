@@ -6,6 +6,7 @@ use Rattle.dht_types.proofs.PutLaws.{put_elim, put_same, exact_nat}
 use Rattle.dht_types.specs.Gfid.{Entry, anchor}
 use Rattle.dht_types.specs.Tree.{Tree, Node}
 use Rattle.dht_types.specs.declared.identifiers.Gfid.{Gfid}
+use Rattle.dht_types.specs.declared.locks.Key.{Key}
 use Rattle.dht_types.specs.declared.locks.Mode.{Mode}
 use Rattle.dht_types.specs.declared.stored.DirRecord.{DirRecord}
 use Rattle.dht_types.specs.declared.stored.Main.{Main}
@@ -14,6 +15,7 @@ use Rattle.dht_types.specs.declared.stored.Slot.{Slot}
 use Rattle.dht_brick.specs.Contents.{Contents, Opens}
 use Rattle.dht_brick.specs.OpenRows.{registrations, is_sealed}
 use Rattle.dht_brick.specs.Parts.{is_dir, is_file, is_plain, is_copy, is_standlink}
+use Rattle.dht_section.specs.Claims.{Claim}
 use Rattle.dht_section.specs.Disk.{Disk, slot_at, file_at, dir_at, ChangesOneBrick}
 use Rattle.dht_section.specs.Dirs.{DirInvariant}
 use Rattle.dht_section.specs.Files.{FileInvariant}
@@ -98,8 +100,8 @@ pub dir_kept : (m n : ℕ) (g : Gfid) (v w : DirView) (t u : Bool) → n ≡ m �
 dir_kept m n g v w t u count view is h =
     subst (λ (c : ℕ). DirInvariant c g w u) (sym count) (subst (λ (x : DirView). DirInvariant m g x u) (sym view) (subst (λ (y : Bool). DirInvariant m g v y) (sym is) h))
 
-pub lock_kept : (old new : ℕ → Option Mode) → new ≡ old → LockInvariant old → LockInvariant new
-lock_kept old new e h = subst LockInvariant (sym e) h
+pub lock_kept : (b : ℕ) (key : Key) (old new : ℕ → Option Mode) (claims : ℕ → Claim) → new ≡ old → LockInvariant b key old claims → LockInvariant b key new claims
+lock_kept b key old new claims e h = subst (λ (x : ℕ → Option Mode). LockInvariant b key x claims) (sym e) h
 
 -- a view is the same where each of its parts is
 pub view_same : (d e : Disk) (f : Gfid) → e.count ≡ d.count → ((i : ℕ) → (e.brick i).opens ≡ (d.brick i).opens) → ((i : ℕ) → file_at e i f ≡ file_at d i f) → ((i : ℕ) (x : Entry) → links_to f (slot_at e i x) ≡ links_to f (slot_at d i x)) → ((i : ℕ) (x : Entry) → is_plain f (slot_at e i x).main ≡ is_plain f (slot_at d i x).main) → ((i : ℕ) (x : Entry) → is_copy f (slot_at e i x).standby ≡ is_copy f (slot_at d i x).standby) → view_of e f ≡ view_of d f

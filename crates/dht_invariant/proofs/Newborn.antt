@@ -13,6 +13,8 @@ use Rattle.dht_types.specs.History.{with_line, start, IsOwn}
 use Rattle.dht_types.specs.declared.identifiers.Gfid.{Gfid}
 use Rattle.dht_types.specs.declared.identifiers.ClientNo.{ClientNo}
 use Rattle.dht_types.specs.declared.identifiers.CallNo.{CallNo}
+use Rattle.dht_types.specs.declared.locks.Key.{Key}
+use Rattle.dht_types.specs.declared.locks.Mode.{Mode}
 use Rattle.dht_types.specs.declared.stored.DirRecord.{DirRecord}
 use Rattle.dht_types.specs.declared.stored.Slot.{Slot}
 use Rattle.dht_types.specs.declared.lines.Line.TheVariants.{Volume}
@@ -24,19 +26,21 @@ use Rattle.dht_brick.specs.Contents.{Contents, newborn, slot, dir, file, bare, n
 use Rattle.dht_brick.specs.declared.opens.Registration.{Registration}
 use Rattle.dht_brick.specs.OpenRows.{registrations, is_sealed}
 use Rattle.dht_brick.specs.Parts.{is_copy, is_dir}
-use Rattle.dht_section.specs.Disk.{Disk, file_in, slot_at, name_at, file_at, dir_at, range_of_value, range_of, range_at, ranges_below, layout_of}
+use Rattle.dht_section.specs.Claims.{places_of}
+use Rattle.dht_section.specs.Disk.{Disk, file_in, slot_at, name_at, file_at, dir_at, range_of_value, range_of, range_at, ranges_below, layout_of, holders}
 use Rattle.dht_section.specs.Dirs.{DirInvariant, PlacedAt}
-use Rattle.dht_section.specs.Early.{Early, OnlyFirstHolds}
+use Rattle.dht_section.specs.Early.{Early}
 use Rattle.dht_section.specs.Files.{FileInvariant}
-use Rattle.dht_section.specs.Invariant.{Invariant, Things, Used, ByBytes, ByDir, ByRecord, ByCopy, BySeal, no_places}
+use Rattle.dht_section.specs.Invariant.{Invariant, Things, Used, ByBytes, ByDir, ByRecord, ByCopy, BySeal}
+use Rattle.dht_section.specs.Locks.{LockInvariant}
 use Rattle.dht_section.specs.Shapes.{Bare, Gone, body}
 use Rattle.dht_section.specs.Views.{core, links_to, view_of, dir_view}
 use Rattle.dht_types.specs.Volume.{HasWeight}
 use Rattle.dht_brick.proofs.TableLemmas.{gfid_total, gfid_exact}
-use Rattle.dht_section.proofs.ContentsLaws.{get_at, get_off}
+use Rattle.dht_invariant.specs.Laws.{no_claims}
 use Rattle.dht_invariant.specs.New.{AreNew}
 use Rattle.dht_invariant.proofs.Basics.{gfid_cases, none_some, some_same, not_true, true_false, anchor_within}
-use Rattle.dht_invariant.proofs.QuietKeeps.{first_alone}
+use Rattle.dht_invariant.proofs.ContentsLaws.{get_at, get_off}
 
 is_not : (g : Gfid) → g ≢ root → same_gfid g root ≡ false
 is_not g ne = not_true (same_gfid g root) (λ h. ne ((exact_gfid g root).0 h))
@@ -111,11 +115,15 @@ module _ (ws : List ℕ) (d : Disk) (new : AreNew ws d) (some : 0 < d.count) whe
     | inr l ↦ is_not g (λ e. let z : home g ≡ 0 = ap home e in absurd (omega arith)) ∙ sym (ap is_some (new.no_dirs (home g) g l))
   ]
 
-  sole : OnlyFirstHolds d
-  sole b c key ne = elim (cases_lt b d.count) [
-    | inl l ↦ each_new (λ x. x.locks key c ≡ None) (λ v. refl) b l
-    | inr l ↦ new.no_locks b key c l
-  ]
+  nobody_holds : (b : ℕ) (key : Key) (c : ℕ) (m : Mode) → b < d.count → holders d b key c ≡ Some m → ⊥
+  nobody_holds b key c m l h = none_some (holders d b key c) m (each_new (λ x. x.locks key c ≡ None) (λ v. refl) b l) h
+
+  lock_new : (b : ℕ) (key : Key) → b < d.count → LockInvariant b key (holders d b key) no_claims
+  lock_new b key l = record {
+    alone = λ c e m h i. absurd (nobody_holds b key c _ l h);
+    claimed = λ c m h. absurd (nobody_holds b key c m l h);
+    low = λ c m h. absurd (nobody_holds b key c m l h);
+  }
 
   no_links : (f : Gfid) (b : ℕ) (x : Entry) → b < d.count → links_to f (slot_at d b x) ≡ false
   no_links f b x l = ap (links_to f) (no_slot b x l)
@@ -126,7 +134,7 @@ module _ (ws : List ℕ) (d : Disk) (new : AreNew ws d) (some : 0 < d.count) whe
   no_seal : (f : Gfid) → (view_of d f).sealed ≡ false
   no_seal f = ap (λ (c : Contents). is_sealed c.opens f) (new.contents (anchor f d.count) (anchor_within f d.count some)) ∙ ap is_some (get-empty gfid_cmp f)
 
-  file_new : (f : Gfid) (top : ℕ) → FileInvariant d.count top no_places (view_of d f) None
+  file_new : (f : Gfid) (top : ℕ) → FileInvariant d.count top (places_of no_claims f) (view_of d f) None
   file_new f top = record {
     shape = Gone;
     records = record { fits = tt; has = λ b l. ap body (no_file b f l) };
@@ -150,12 +158,12 @@ module _ (ws : List ℕ) (d : Disk) (new : AreNew ws d) (some : 0 < d.count) whe
     named = λ b x l h. absurd (true_false (is_dir g (slot_at d b x).main) h (ap (λ (s : Slot). is_dir g s.main) (no_slot b x l)));
   }
 
-  things_new : (top : ℕ) → Things d first_tree top
+  things_new : (top : ℕ) → Things d first_tree top no_claims
   things_new top = record {
     names = λ x. (Bare, record { fits = tt; has = λ b l. ap core (no_slot b x l); node = refl });
     files = λ f. file_new f top;
     dirs = dir_new;
-    locks = λ b key l. first_alone d sole b key;
+    locks = lock_new;
     housed = λ x b l ne. absurd (ne (no_slot b x l));
     roots = λ b l. root_at b root l;
   }
@@ -187,7 +195,7 @@ module _ (ws : List ℕ) (d : Disk) (new : AreNew ws d) (some : 0 < d.count) whe
       below_taken d root (planned ws root) d.count (omega arith) (range_new heavy count)
       ∙ take_all d.count (planned ws root) (omega arith)
 
-  pub new_invariant : HasWeight ws → d.count ≡ length ws → d.count ≤ 32 → Invariant d (with_line start (Volume ws))
+  pub new_invariant : HasWeight ws → d.count ≡ length ws → d.count ≤ 32 → Invariant d (with_line start (Volume ws)) no_claims
   new_invariant heavy count few = record {
     things = things_new _;
     heavy = heavy;
@@ -206,5 +214,4 @@ module _ (ws : List ℕ) (d : Disk) (new : AreNew ws d) (some : 0 < d.count) whe
     held = λ x b f l h. absurd (none_some (name_at d b x) f (ap file_in (no_slot b x l)) h);
     planned = planned_new heavy count;
     alone = λ b g l. root_at b g l;
-    sole = sole;
   }

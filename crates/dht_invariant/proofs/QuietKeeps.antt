@@ -1,36 +1,66 @@
--- What stays where bricks store what they stored, and only locks or lines of the history change.
-use Rattle.std.proofs.Common.{◌≡◌, ◌<◌, ◌≤◌, ℕ, refl, sym, ap, ◌∙◌, subst, inl, inr, length, arith}
+-- What stays where bricks store what they stored: only locks, registrations, claims or lines of the history change.
+use Rattle.std.proofs.Common.{◌≡◌, ◌≢◌, ◌<◌, ◌≤◌, ℕ, refl, sym, ap, ◌∙◌, subst, length, arith}
 use Rattle.std.specs.Prelude.{is_some, Any}
 use Rattle.dht_types.specs.Gfid.{Entry, root, anchor}
 use Rattle.dht_types.specs.Tree.{Tree}
-use Rattle.dht_types.specs.History.{History, IsOwn}
+use Rattle.dht_types.specs.History.{History, PendingCall, IsOwn}
 use Rattle.dht_types.specs.declared.identifiers.Gfid.{Gfid}
+use Rattle.dht_types.specs.declared.identifiers.ClientNo.{ClientNo}
 use Rattle.dht_types.specs.declared.locks.Key.{Key}
 use Rattle.dht_types.specs.declared.stored.Slot.{Slot}
 use Rattle.dht_hash.specs.DaviesMeyer.{dm}
 use Rattle.dht_xattr.specs.Layout.{holder}
 use Rattle.dht_xattr.specs.Plan.{planned}
 use Rattle.dht_brick.specs.Contents.{Store, Opens, slot, dir, file}
-use Rattle.dht_brick.specs.OpenRows.{is_sealed}
+use Rattle.dht_brick.specs.OpenRows.{registrations, is_sealed}
 use Rattle.dht_brick.specs.Parts.{is_copy, is_dir, is_plain}
+use Rattle.dht_section.specs.Claims.{Claim, places_of}
 use Rattle.dht_section.specs.Disk.{Disk, file_in, slot_at, file_at, dir_at, range_of, layout_of, holders}
-use Rattle.dht_section.specs.Early.{Early, OnlyFirstHolds, IsPlain}
-use Rattle.dht_section.specs.Invariant.{Invariant, Things, Used, NothingUsed, most_hops, no_places}
+use Rattle.dht_section.specs.Early.{Early, IsPlain}
+use Rattle.dht_section.specs.Invariant.{Invariant, Things, Used, NothingUsed, most_hops}
 use Rattle.dht_section.specs.Locks.{LockInvariant}
+use Rattle.dht_section.specs.Names.{StandsAs}
+use Rattle.dht_section.specs.Rely.{Rely, IsFileUsed, ByBytes, ByRecord, BySeal, outline}
+use Rattle.dht_section.specs.Shapes.{NameShape, NameFits}
 use Rattle.dht_section.specs.Views.{core, cores_of, links_to, view_of, dir_view}
-use Rattle.dht_section.specs.SectionLaws.{layout_same}
-use Rattle.dht_section.proofs.EarlyLaws.{nat_cases}
+use Rattle.dht_invariant.specs.Transition.{Transition, scene}
 use Rattle.dht_invariant.proofs.Basics.{none_some}
-use Rattle.dht_invariant.proofs.Frames.{name_kept, file_kept, dir_kept, view_same, dir_view_same, used_kept}
+use Rattle.dht_invariant.proofs.Frames.{name_kept, dir_kept, dir_view_same, used_kept}
+use Rattle.dht_invariant.proofs.GrowsLaws.{grows_refl}
+use Rattle.dht_invariant.proofs.LayoutLaws.{layout_same}
+use Rattle.dht_invariant.proofs.LessLaws.{file_less}
 
--- bricks store what they stored, and the same clients have the same files open
+-- bricks store what they stored, the same files are sealed, and no file is open to more
 pub record SameStores (d e : Disk) : Type 0 where
   pub count : e.count ≡ d.count
   pub stores : (b : ℕ) → (e.brick b).store ≡ (d.brick b).store
-  pub opens : (b : ℕ) → (e.brick b).opens ≡ (d.brick b).opens
+  pub opened : (b : ℕ) (f : Gfid) → registrations (e.brick b).opens f ≤ registrations (d.brick b).opens f
+  pub seals : (b : ℕ) (f : Gfid) → is_sealed (e.brick b).opens f ≡ is_sealed (d.brick b).opens f
+
+pub at_most : (m n : ℕ) → m ≡ n → m ≤ n
+at_most m n e = omega arith
+
+-- so it is where all is the same but locks
+pub same_opens : (d e : Disk) → e.count ≡ d.count → ((b : ℕ) → (e.brick b).store ≡ (d.brick b).store) → ((b : ℕ) → (e.brick b).opens ≡ (d.brick b).opens) → SameStores d e
+same_opens d e count stores opens = record {
+  count = count;
+  stores = stores;
+  opened = λ b f. at_most (registrations (e.brick b).opens f) (registrations (d.brick b).opens f) (ap (λ (o : Opens). registrations o f) (opens b));
+  seals = λ b f. ap (λ (o : Opens). is_sealed o f) (opens b);
+}
 
 pub same_stores : (d : Disk) → SameStores d d
-same_stores d = record { count = refl; stores = λ b. refl; opens = λ b. refl }
+same_stores d = same_opens d d refl (λ b. refl) (λ b. refl)
+
+-- what a history keeps of another, but for its lines
+pub record SameHistory (s t : History) : Type 0 where
+  pub tree : t.tree ≡ s.tree
+  pub weights : t.weights ≡ s.weights
+  pub run : t.run ≡ s.run
+  pub calls : s.calls ≤ t.calls
+  pub later : s.size ≤ t.size
+  pub past : (j : ℕ) → j ≤ s.size → t.past j ≡ s.past j
+  pub point : t.past t.size ≡ t.tree
 
 module _ (d e : Disk) (m : SameStores d e) where
   slots_same : (b : ℕ) (x : Entry) → slot_at e b x ≡ slot_at d b x
@@ -45,12 +75,26 @@ module _ (d e : Disk) (m : SameStores d e) where
   within : (b : ℕ) → b < e.count → b < d.count
   within b l = subst (λ (n : ℕ). b < n) m.count l
 
-  pub things_same : (t : Tree) (low top : ℕ) → low ≤ top → ((b : ℕ) (key : Key) → b < e.count → LockInvariant (holders e b key)) → Things d t low → Things e t top
-  things_same t low top l locks k = record {
+  sealed_same : (g : Gfid) → (view_of e g).sealed ≡ (view_of d g).sealed
+  sealed_same g = ap (λ (i : ℕ). is_sealed (e.brick i).opens g) (ap (anchor g) m.count) ∙ m.seals (anchor g d.count) g
+
+  opened_less : (g : Gfid) → (view_of e g).opened ≤ (view_of d g).opened
+  opened_less g = subst (λ (i : ℕ). registrations (e.brick (anchor g i)).opens g ≤ registrations (d.brick (anchor g d.count)).opens g) (sym m.count) (m.opened (anchor g d.count) g)
+
+  view_fewer : (f : Gfid) → view_of e f ≡ record (view_of d f) { opened = (view_of e f).opened }
+  view_fewer f = λ j. record {
+    records = λ i. files_same i f j;
+    links = λ i x. ap (links_to f) (slots_same i x) j;
+    unmarked = λ i x. ap (λ (p : Slot). is_plain f p.main) (slots_same i x) j;
+    copies = λ i x. ap (λ (p : Slot). is_copy f p.standby) (slots_same i x) j;
+    opened = (view_of e f).opened;
+    sealed = sealed_same f j;
+  }
+
+  pub things_same : (t : Tree) (low top : ℕ) (p q : ℕ → Claim) → low ≤ top → ((f : Gfid) (b w : ℕ) → places_of q f b w ≤ places_of p f b w) → ((b : ℕ) (key : Key) → b < e.count → LockInvariant b key (holders e b key) q) → Things d t low p → Things e t top q
+  things_same t low top p q l less locks k = record {
     names = λ x. name_kept d.count e.count (cores_of d x) (cores_of e x) (t.names x) (t.names x) m.count (λ b. ap core (slots_same b x)) refl (k.names x);
-    files = λ f. file_kept d.count e.count low top no_places (view_of d f) (view_of e f) (t.bytes f) (t.bytes f) m.count
-        (view_same d e f m.count m.opens (λ b. files_same b f) (λ b x. ap (links_to f) (slots_same b x)) (λ b x. ap (λ (p : Slot). is_plain f p.main) (slots_same b x)) (λ b x. ap (λ (p : Slot). is_copy f p.standby) (slots_same b x)))
-        refl l (k.files f);
+    files = λ f. file_less d.count e.count low top (view_of e f).opened (places_of p f) (places_of q f) (view_of d f) (view_of e f) (t.bytes f) m.count (view_fewer f) (opened_less f) l (less f) (k.files f);
     dirs = λ g. dir_kept d.count e.count g (dir_view d g) (dir_view e g) (t.dirs g) (t.dirs g) m.count
         (dir_view_same d e g dirs_same (λ b x. ap (λ (p : Slot). is_dir g p.main) (slots_same b x))) refl (k.dirs g);
     locks = locks;
@@ -62,61 +106,81 @@ module _ (d e : Disk) (m : SameStores d e) where
   used_same t g = used_kept e d t t g (sym m.count) (λ h. h) (λ h. h)
       (λ b h. ap is_some (sym (files_same b g)) ∙ h)
       (λ b h. ap is_some (sym (dirs_same b g)) ∙ h)
-      (sym (ap (λ (i : ℕ). is_sealed (e.brick i).opens g) (ap (anchor g) m.count) ∙ ap (λ (o : Opens). is_sealed o g) (m.opens (anchor g d.count))))
+      (sym (sealed_same g))
 
   pub layouts_same : (g : Gfid) → layout_of e g ≡ layout_of d g
   layouts_same g = layout_same d e g m.count (λ b. ap range_of (dirs_same b g))
 
-  pub early_same : (s t : History) → t.weights ≡ s.weights → OnlyFirstHolds e → Early d s → Early e t
-  early_same s t weights sole k = record {
+  pub early_same : (s t : History) → t.weights ≡ s.weights → Early d s → Early e t
+  early_same s t weights k = record {
     plain = λ x b l. subst IsPlain (sym (slots_same b x)) (k.plain x b (within b l));
     unmoved = λ f b r l h. k.unmoved f b r (within b l) (sym (files_same b f) ∙ h);
     held = λ x b f l h. ap (λ ranges. holder ranges (dm x.1)) (layouts_same x.0) ∙ k.held x b f (within b l) (sym (ap file_in (slots_same b x)) ∙ h);
     planned = layouts_same root ∙ (k.planned ∙ ap (λ ws. planned ws root) (sym weights));
     alone = λ b g l. ap is_some (dirs_same b g) ∙ k.alone b g (within b l);
-    sole = sole;
   }
 
--- where the first client alone holds locks, nobody holds one beside another
-pub first_alone : (d : Disk) → OnlyFirstHolds d → (b : ℕ) (key : Key) → LockInvariant (holders d b key)
-first_alone d sole b key c e m hc he = elim (nat_cases c 0) [
-  | inl q ↦ elim (nat_cases e 0) [
-    | inl r ↦ r ∙ sym q
-    | inr ne ↦ absurd (none_some (holders d b key e) m (sole b e key ne) he)
-  ]
-  | inr ne ↦ absurd (none_some (holders d b key c) _ (sole b c key ne) hc)
-]
+  module _ (s t : History) (h : SameHistory s t) where
+    pub invariant_same : (p q : ℕ → Claim) → ((f : Gfid) (b w : ℕ) → places_of q f b w ≤ places_of p f b w) → ((b : ℕ) (key : Key) → b < e.count → LockInvariant b key (holders e b key) q) → NothingUsed e t → Invariant d s p → Invariant e t q
+    invariant_same p q less locks fresh k =
+        let later = h.later in
+        let count = m.count in
+        let some = k.some_brick in
+        let few = k.few in
+        let calls = h.calls in
+        record {
+          things = subst (λ (x : Tree). Things e x (most_hops t) q) (sym h.tree) (things_same s.tree (most_hops s) (most_hops t) p q (omega arith) less locks k.things);
+          heavy = subst (λ ws. Any (λ w. 0 < w) ws) (sym h.weights) k.heavy;
+          some_brick = omega arith;
+          counted = count ∙ k.counted ∙ ap length (sym h.weights);
+          few = omega arith;
+          point = h.point;
+          known = λ g c n l u own. (let z = k.known g c n l (used_same s.tree g (subst (λ (x : Tree). Used e x g) h.tree u)) (subst (λ (i : ℕ). IsOwn i c n g) h.run own) in omega arith);
+          fresh = fresh;
+        }
 
--- what a history keeps of another, but for its lines
-pub record SameHistory (s t : History) : Type 0 where
-  pub tree : t.tree ≡ s.tree
-  pub weights : t.weights ≡ s.weights
-  pub run : t.run ≡ s.run
-  pub calls : s.calls ≤ t.calls
-  pub later : s.size ≤ t.size
-  pub point : t.past t.size ≡ t.tree
+    file_used_same : (f : Gfid) → IsFileUsed d s.tree f → IsFileUsed e t.tree f
+    file_used_same f (ByBytes k) = ByBytes (λ none. k (sym (ap (λ (x : Tree). x.bytes f) h.tree) ∙ none))
+    file_used_same f (ByRecord b r l k) = ByRecord b r (subst (λ (n : ℕ). b < n) (sym m.count) l) (files_same b f ∙ k)
+    file_used_same f (BySeal k) = BySeal (sealed_same f ∙ k)
 
-pub invariant_same : (d e : Disk) (s t : History) → SameStores d e → SameHistory s t → ((b : ℕ) (key : Key) → b < e.count → LockInvariant (holders e b key)) → NothingUsed e t → Invariant d s → Invariant e t
-invariant_same d e s t m h locks fresh k =
-    let later = h.later in
-    let count = m.count in
-    let some = k.some_brick in
-    let few = k.few in
-    let calls = h.calls in
-    record {
-      things = subst (λ (x : Tree). Things e x (most_hops t)) (sym h.tree) (things_same d e m s.tree (most_hops s) (most_hops t) (omega arith) locks k.things);
-      heavy = subst (λ ws. Any (λ w. 0 < w) ws) (sym h.weights) k.heavy;
-      some_brick = omega arith;
-      counted = count ∙ k.counted ∙ ap length (sym h.weights);
-      few = omega arith;
-      point = h.point;
-      known = λ g c n l u own. (let z = k.known g c n l (used_same d e m s.tree g (subst (λ (x : Tree). Used e x g) h.tree u)) (subst (λ (i : ℕ). IsOwn i c n g) h.run own) in omega arith);
-      fresh = fresh;
+    stands_same : (x : Entry) (a : NameShape) → StandsAs d.count (cores_of d x) (s.tree.names x) a → StandsAs e.count (cores_of e x) (t.tree.names x) a
+    stands_same x a st = record {
+      fits = subst (λ (n : ℕ). NameFits n a) (sym m.count) st.fits;
+      has = λ b l. ap core (slots_same b x) ∙ st.has b (within b l);
+      node = ap (λ (u : Tree). u.names x) h.tree ∙ st.node;
     }
 
--- lines of the history that change no tree keep both
-pub lines_keep : (d : Disk) (s t : History) → SameHistory s t → NothingUsed d t → Invariant d s → Early d s → Invariant d t × Early d t
-lines_keep d s t h fresh k now = (
-  invariant_same d d s t (same_stores d) h k.things.locks fresh k,
-  early_same d d (same_stores d) s t h.weights now.sole now,
-)
+    -- to a client whose locks stay it is what others may do
+    pub rely_same : (p q : ℕ → Claim) (w : ClientNo) (r : PendingCall) → ((b : ℕ) (key : Key) → holders e b key w.0 ≡ holders d b key w.0) → Rely (scene d s p w r) (scene e t q w r)
+    rely_same p q w r locks = record {
+      who = refl;
+      mine = record { number = refl; call = refl; since = refl; alone = refl; was_down = refl; has_failed = refl; deeds = refl };
+      count = m.count;
+      run = h.run;
+      weights = h.weights;
+      locks = locks;
+      names = λ x a g st. (a, grows_refl a, stands_same x a st);
+      slots = λ x b g same. slots_same b x;
+      outlines = λ x b f g l link. ap outline (files_same b f);
+      dirs = λ g b rec i there. (rec, dirs_same b g ∙ there, record { place = refl; depth = refl; hashes = refl });
+      added = λ g b rec i none there. absurd (none_some (dir_at d b g) rec none (sym (dirs_same b g) ∙ there));
+      known = λ g i k. ap (λ (u : Tree). u.dirs g) h.tree ∙ k;
+      used = file_used_same;
+      sealed = λ f k. sealed_same f ∙ k;
+      later = h.later;
+      past = h.past;
+    }
+
+    -- all of a transition that stores nothing
+    pub transition_same : (c : ℕ) (p q : ℕ → Claim) → ((b : ℕ) → d.count ≤ b → e.brick b ≡ d.brick b) → ((f : Gfid) (b w : ℕ) → places_of q f b w ≤ places_of p f b w) → ((b : ℕ) (key : Key) → b < e.count → LockInvariant b key (holders e b key) q) → ((b : ℕ) (key : Key) (w : ℕ) → w ≢ c → holders e b key w ≡ holders d b key w) → ((w : ℕ) → w ≢ c → q w ≡ p w) → ((w : ℕ) → w ≢ c → t.pending w ≡ s.pending w) → NothingUsed e t → Invariant d s p → Early d s → Transition c d s p e t q
+    transition_same c p q elsewhere less locks holds claims pending fresh k now = record {
+      count = m.count;
+      kept = invariant_same p q less locks fresh k;
+      early = early_same s t h.weights now;
+      later = h.later;
+      pending = pending;
+      claims = claims;
+      elsewhere = elsewhere;
+      others = λ w r ne. rely_same p q w r (λ b key. holds b key w.0 ne);
+    }

@@ -1,7 +1,8 @@
--- A permitted request, as it was served, keeps the invariant, and what holds beside it for now.
-use Rattle.std.proofs.Common.{◌≡◌, ◌≢◌, ◌<◌, ◌≤◌, ◌^◌, ℕ, [], refl, sym, ap, ◌∙◌, subst, inl, inr, length, arith}
+-- A permitted request, however it was answered, is a transition.
+use Rattle.std.proofs.Common.{◌≡◌, ◌≢◌, ◌<◌, ◌≤◌, ◌^◌, ℕ, true, [], refl, sym, ap, ◌∙◌, subst, inl, inr, length, arith}
 use Rattle.std.specs.Prelude.{Option, Some, None, nat_eq, is_some, Any}
-use Rattle.dht_types.proofs.PutLaws.{put_same, put_other, exact_nat, exact_gfid}
+use Rattle.dht_types.proofs.PutLaws.{put_same, put_other, exact_nat, exact_entry, exact_gfid}
+use Rattle.dht_types.specs.Put.{same_entry}
 use Rattle.dht_types.specs.Gfid.{Entry, root, anchor, same_gfid}
 use Rattle.dht_types.specs.Tree.{Tree, IsFile, applied}
 use Rattle.dht_types.specs.History.{PendingCall, IsOwn, deeds_after}
@@ -19,32 +20,39 @@ use Rattle.dht_hash.specs.DaviesMeyer.{dm}
 use Rattle.dht_xattr.specs.Layout.{holder}
 use Rattle.dht_xattr.specs.Plan.{planned}
 use Rattle.dht_brick.specs.Contents.{Contents, Store, Opens, bare, slot, dir, file}
+use Rattle.dht_brick.specs.Locality.{name_places}
 use Rattle.dht_brick.specs.OpenRows.{is_sealed}
 use Rattle.dht_brick.specs.Parts.{with_main}
 use Rattle.dht_brick.specs.declared.requests.NameRequest.TheVariants.{Create}
 use Rattle.dht_brick.specs.declared.requests.Request.TheVariants.{OnNames}
 use Rattle.dht_brick.specs.declared.replies.Reply.{Reply}
-use Rattle.dht_brick.proofs.LockLaws.{locks_are_local}
 use Rattle.dht_section.specs.declared.machine.Ask.{Ask}
-use Rattle.dht_section.proofs.SceneLaws.{brick_keeps}
+use Rattle.dht_section.specs.Claims.{Claim, places_of}
 use Rattle.dht_section.specs.Disk.{file_in, slot_at, name_at, file_at, dir_at, range_of, layout_of, holder_of, holders}
 use Rattle.dht_section.specs.Truth.{plain}
-use Rattle.dht_section.specs.Early.{Early, OnlyFirstHolds, IsPlain, IsUnmoved}
+use Rattle.dht_section.specs.Early.{Early, IsPlain, IsUnmoved}
 use Rattle.dht_section.specs.Invariant.{Invariant, Things, Used, NothingUsed, most_hops}
 use Rattle.dht_section.specs.Locks.{LockInvariant}
-use Rattle.dht_section.specs.Scene.{Scene, Sound, Permitted, May, Guarantee, tree_by, deeds_by}
-use Rattle.dht_section.specs.Views.{core}
-use Rattle.dht_section.specs.SectionLaws.{layout_same}
-use Rattle.dht_section.proofs.ContentsLaws.{slot_at_new, slot_off_new, file_at_new, file_off_new}
-use Rattle.dht_section.proofs.EarlyLaws.{nat_cases, stands_plainly}
-use Rattle.dht_invariant.specs.After.{OnlyMine}
+use Rattle.dht_section.specs.Moves.{Guarantee, tree_by, deeds_by}
+use Rattle.dht_section.specs.Permits.{May, Permitted, Changes}
+use Rattle.dht_section.specs.Scene.{Scene, Sound}
+use Rattle.dht_section.specs.Views.{core, links_to}
 use Rattle.dht_invariant.specs.Makes.{Makes, IsNew}
-use Rattle.dht_invariant.proofs.Basics.{entry_cases, gfid_cases}
-use Rattle.dht_invariant.proofs.CreateKeeps.{create_keeps}
+use Rattle.dht_invariant.specs.Touches.{Touches, OwnsFile}
+use Rattle.dht_invariant.specs.Transition.{Transition, OnlyMine}
+use Rattle.dht_invariant.proofs.Basics.{nat_cases, entry_cases, gfid_cases}
+use Rattle.dht_invariant.proofs.ContentsLaws.{slot_at_new, slot_off_new, file_at_new, file_off_new}
+use Rattle.dht_invariant.proofs.CreateKeeps.{no_link, create_keeps}
+use Rattle.dht_invariant.proofs.EarlyLaws.{stands_plainly}
 use Rattle.dht_invariant.proofs.Frames.{brick_by, brick_is, kept_by, used_kept}
+use Rattle.dht_invariant.proofs.LayoutLaws.{layout_same}
+use Rattle.dht_invariant.proofs.LockKeeps.{locks_moved}
 use Rattle.dht_invariant.proofs.OwnLaws.{own_is}
-use Rattle.dht_invariant.proofs.QuietKeeps.{SameStores, same_stores, things_same, used_same, early_same, first_alone, invariant_same}
+use Rattle.dht_invariant.proofs.QuietKeeps.{SameStores, SameHistory, at_most, same_opens, same_stores, things_same, used_same, transition_same}
+use Rattle.dht_invariant.proofs.RelyLaws.{others_of}
 use Rattle.dht_invariant.proofs.RowEffects.{Quiet, Adds, effect}
+use Rattle.dht_invariant.proofs.ServedLaws.{others_hold}
+use Rattle.dht_invariant.proofs.TouchLaws.{OneSlot, one_slot_touches}
 
 -- ---- of whom the pending calls are
 
@@ -56,32 +64,35 @@ mine_is s t c r h e q =
 other_is : (s t : Scene) (c : ℕ) (r : PendingCall) → OnlyMine s t → t.history.pending c ≡ Some r → c ≢ s.who.0 → s.history.pending c ≡ Some r
 other_is s t c r h e ne = sym (ap (λ (f : ℕ → Option PendingCall). f c) h.pending ∙ put_other nat_eq exact_nat s.history.pending s.who.0 (Some t.mine) c ne) ∙ e
 
--- ---- locks
+pub claims_less : (p q : ℕ → Claim) → q ≡ p → (f : Gfid) (b w : ℕ) → places_of q f b w ≤ places_of p f b w
+claims_less p q e f b w = at_most (places_of q f b w) (places_of p f b w) (ap (λ (x : ℕ → Claim). places_of x f b w) e)
 
-sole_moved : (s t : Scene) (a : Ask) (r : Reply) → Guarantee s a r t → Sound s → OnlyFirstHolds t.disk
-sole_moved s t a r m sound b c key ne =
-    brick_keeps (λ (x : Contents). x.locks key c) s t a r m (locks_are_local _ s.who s.mine.number a.request (s.disk.brick a.brick.0) key c (λ e. ne (e ∙ sound.first))) b
-    ∙ sound.early.sole b c key ne
+module _ (s t : Scene) (a : Ask) (r : Reply) (m : Guarantee s a r t) (sound : Sound s) (p : Permitted s a) (h : OnlyMine s t) where
+  locks_now : (b : ℕ) (key : Key) → b < t.disk.count → LockInvariant b key (holders t.disk b key) t.claims
+  locks_now = locks_moved s t a r m p h.client sound.kept.things.locks
 
-locks_moved : (s t : Scene) (a : Ask) (r : Reply) → Guarantee s a r t → Sound s → (b : ℕ) (key : Key) → b < t.disk.count → LockInvariant (holders t.disk b key)
-locks_moved s t a r m sound b key l = first_alone t.disk (sole_moved s t a r m sound) b key
+  less : (f : Gfid) (b w : ℕ) → places_of t.claims f b w ≤ places_of s.claims f b w
+  less = claims_less s.claims t.claims m.claims
 
--- ---- a request that made nothing
+  others_wait : (w : ℕ) → w ≢ s.who.0 → t.history.pending w ≡ s.history.pending w
+  others_wait w ne = ap (λ (f : ℕ → Option PendingCall). f w) h.pending ∙ put_other nat_eq exact_nat s.history.pending s.who.0 (Some t.mine) w ne
 
-module _ (s t : Scene) (a : Ask) (r : Reply) (m : Guarantee s a r t) (sound : Sound s) (h : OnlyMine s t) where
-  module _ (q : Quiet a.request r (s.disk.brick a.brick.0) m.new) where
+  elsewhere : (b : ℕ) → s.disk.count ≤ b → t.disk.brick b ≡ s.disk.brick b
+  elsewhere b l = brick_by (λ (c : Contents). c ≡ s.disk.brick b) s.disk t.disk a.brick.0 m.new b m.disk (λ e. (let there = p.there in absurd (omega arith))) (λ x. refl)
+
+  -- ---- a request that made nothing
+
+  module _ (q : Quiet a.request m.real (s.disk.brick a.brick.0) m.new) where
     quiet_stores : SameStores s.disk t.disk
-    quiet_stores = record {
-      count = m.disk.count;
-      stores = kept_by (λ (c : Contents). c.store) s.disk t.disk a.brick.0 m.new m.disk q.store;
-      opens = kept_by (λ (c : Contents). c.opens) s.disk t.disk a.brick.0 m.new m.disk q.opens;
-    }
+    quiet_stores = same_opens s.disk t.disk m.disk.count
+        (kept_by (λ (c : Contents). c.store) s.disk t.disk a.brick.0 m.new m.disk q.store)
+        (kept_by (λ (c : Contents). c.opens) s.disk t.disk a.brick.0 m.new m.disk q.opens)
 
     quiet_tree : t.history.tree ≡ s.history.tree
     quiet_tree = m.tree ∙ ap (λ (x : Option TreeStep). tree_by x s.history.tree) q.step
 
     quiet_deeds : t.mine.deeds ≡ s.mine.deeds
-    quiet_deeds = m.deeds ∙ ap (deeds_by s t.history.size) q.step
+    quiet_deeds = m.mine.deeds_are ∙ ap (deeds_by s t.history.size) q.step
 
     quiet_unused : NothingUsed t.disk t.history
     quiet_unused c r g small e none own u =
@@ -89,39 +100,36 @@ module _ (s t : Scene) (a : Ask) (r : Reply) (m : Guarantee s a r t) (sound : So
         let own2 : IsOwn s.history.run c r.number g = subst (λ (i : ℕ). IsOwn i c r.number g) m.run own in
         elim (nat_cases c.0 s.who.0) [
           | inl z ↦ (let same = mine_is s t c.0 r h e z in
-              let number : r.number ≡ s.mine.number = ap (λ (x : PendingCall). x.number) same ∙ m.number in
+              let number : r.number ≡ s.mine.number = ap (λ (x : PendingCall). x.number) same ∙ m.mine.number in
               sound.kept.fresh c s.mine g (subst (λ (x : CallNo). x.0 < 2 ^ 64) number small) (ap s.history.pending z ∙ sound.runs)
               (sym quiet_deeds ∙ (ap (λ (x : PendingCall). x.deeds) (sym same) ∙ none)) (subst (λ (x : CallNo). IsOwn s.history.run c x g) number own2) used)
           | inr ne ↦ sound.kept.fresh c r g small (other_is s t c.0 r h e ne) none own2 used
         ]
 
-    quiet_invariant : Invariant t.disk t.history
-    quiet_invariant =
-        let calls = h.calls in
-        invariant_same s.disk t.disk s.history t.history quiet_stores
-        (record { tree = quiet_tree; weights = m.weights; run = m.run; calls = omega arith; later = m.later; point = h.point })
-        (locks_moved s t a r m sound) quiet_unused sound.kept
+    quiet_history : SameHistory s.history t.history
+    quiet_history = (let calls = h.calls in record { tree = quiet_tree; weights = m.weights; run = m.run; calls = omega arith; later = m.later; past = m.past; point = h.point })
 
-    quiet_early : Early t.disk t.history
-    quiet_early = early_same s.disk t.disk quiet_stores s.history t.history m.weights (sole_moved s t a r m sound) sound.early
+    quiet_transition : Transition s.who.0 s.disk s.history s.claims t.disk t.history t.claims
+    quiet_transition = transition_same s.disk t.disk quiet_stores s.history t.history quiet_history s.who.0 s.claims t.claims elsewhere less locks_now
+        (others_hold s t a r m) (λ w ne. ap (λ (x : ℕ → Claim). x w) m.claims) others_wait quiet_unused sound.kept sound.early
 
   -- ---- a request that made a file
 
-  module _ (p : Permitted s a) (q : Adds a.request r (s.disk.brick a.brick.0) m.new) where
+  module _ (q : Adds a.request m.real (s.disk.brick a.brick.0) m.new) where
     abbrev at : ℕ
     at = a.brick.0
 
     abbrev name : Entry
     name = (q.dir, q.name)
 
-    may : May s a.brick.0 (OnNames (Create q.dir q.name q.file))
-    may = subst (May s a.brick.0) q.request p.may
+    may : Changes s a.brick.0 (Create q.dir q.name q.file)
+    may = (let x : May s a.brick.0 (OnNames (Create q.dir q.name q.file)) = subst (May s a.brick.0) q.request p.may in x.1)
 
     made_tree : t.history.tree ≡ applied (AddFile q.dir q.name q.file) s.history.tree
     made_tree = m.tree ∙ ap (λ (x : Option TreeStep). tree_by x s.history.tree) q.step
 
     made_deeds : t.mine.deeds ≡ Some (deeds_after s.history.tree t.history.size s.mine.call s.mine.deeds (AddFile q.dir q.name q.file))
-    made_deeds = m.deeds ∙ ap (deeds_by s t.history.size) q.step
+    made_deeds = m.mine.deeds_are ∙ ap (deeds_by s t.history.size) q.step
 
     -- the brick as it is now, and another one
     new_is : t.disk.brick at ≡ m.new
@@ -166,26 +174,25 @@ module _ (s t : Scene) (a : Ask) (r : Reply) (m : Guarantee s a r t) (sound : So
     bare_before : (b : ℕ) → b < s.disk.count → slot_at s.disk b name ≡ bare
     bare_before = elim (stands_plainly s.disk name (s.history.tree.names name) (sound.kept.things.names name) (sound.early.plain name)) [
       | inl z ↦ z.bare
-      | inr z ↦ absurd (let w : Some (IsFile z.file) ≡ None = sym z.node ∙ may.3.fits.1 in cc)
+      | inr z ↦ absurd (let w : Some (IsFile z.file) ≡ None = sym z.node ∙ may.wants.fits.1 in cc)
     ]
 
     is_new : IsNew s.disk s.history.tree name q.file
     is_new = record {
-      bare = record { fits = tt; has = λ b l. ap core (bare_before b l); node = may.3.fits.1 };
-      unused = may.2;
+      bare = record { fits = tt; has = λ b l. ap core (bare_before b l); node = may.wants.fits.1 };
+      unused = may.also.1;
     }
 
-    made_things : Things t.disk t.history.tree (most_hops t.history)
+    made_things : Things t.disk t.history.tree (most_hops t.history) t.claims
     made_things =
         let later = m.later in
-        subst (λ (x : Tree). Things t.disk x (most_hops t.history)) (sym made_tree)
-        (things_same t.disk t.disk (same_stores t.disk) (applied (AddFile q.dir q.name q.file) s.history.tree) (most_hops s.history) (most_hops t.history) (omega arith)
-        (locks_moved s t a r m sound)
-        (create_keeps s.disk t.disk s.history.tree at name q.file (most_hops s.history) makes is_new sound.kept.things))
+        subst (λ (x : Tree). Things t.disk x (most_hops t.history) t.claims) (sym made_tree)
+        (things_same t.disk t.disk (same_stores t.disk) (applied (AddFile q.dir q.name q.file) s.history.tree) (most_hops s.history) (most_hops t.history) s.claims t.claims (omega arith) less locks_now
+        (create_keeps s.disk t.disk s.history.tree at name q.file (most_hops s.history) s.claims makes is_new sound.kept.things))
 
     -- the file is this call's own, and all else that is used was used before
     own_call : (c : ClientNo) (k : CallNo) → k.0 < 2 ^ 64 → IsOwn t.history.run c k q.file → (c.0 ≡ s.who.0) × (k.0 ≡ s.mine.number.0)
-    own_call c k l own = own_is s.history.run c s.who k s.mine.number q.file l h.small (subst (λ (i : ℕ). IsOwn i c k q.file) m.run own) may.3.own
+    own_call c k l own = own_is s.history.run c s.who k s.mine.number q.file l h.small (subst (λ (i : ℕ). IsOwn i c k q.file) m.run own) may.wants.own
 
     used_before : (g : Gfid) → g ≢ q.file → Used t.disk t.history.tree g → Used s.disk s.history.tree g
     used_before g ne u = used_kept t.disk s.disk (applied (AddFile q.dir q.name q.file) s.history.tree) s.history.tree g (sym m.disk.count)
@@ -211,7 +218,7 @@ module _ (s t : Scene) (a : Ask) (r : Reply) (m : Guarantee s a r t) (sound : So
       ]
     ]
 
-    made_invariant : Invariant t.disk t.history
+    made_invariant : Invariant t.disk t.history t.claims
     made_invariant =
         let count = m.disk.count in
         let some = sound.kept.some_brick in
@@ -264,7 +271,7 @@ module _ (s t : Scene) (a : Ask) (r : Reply) (m : Guarantee s a r t) (sound : So
     made_held : (x : Entry) (i : ℕ) (f : Gfid) → i < t.disk.count → name_at t.disk i x ≡ Some f → holder_of t.disk x ≡ Some i
     made_held x i f l e = holders_stay x ∙ elim (entry_cases x name) [
       | inl w ↦ elim (nat_cases i at) [
-        | inl z ↦ ap (holder_of s.disk) w ∙ (may.1 ∙ ap Some (sym z))
+        | inl z ↦ ap (holder_of s.disk) w ∙ (may.also.0 ∙ ap Some (sym z))
         | inr ne ↦ sound.early.held x i f (within i l) (sym (ap file_in (slots_off i x ne)) ∙ e)
       ]
       | inr ne ↦ sound.early.held x i f (within i l) (sym (ap file_in (slots_stay i x ne)) ∙ e)
@@ -277,11 +284,63 @@ module _ (s t : Scene) (a : Ask) (r : Reply) (m : Guarantee s a r t) (sound : So
       held = made_held;
       planned = layouts_stay root ∙ (sound.early.planned ∙ ap (λ ws. planned ws root) (sym m.weights));
       alone = λ i g l. ap is_some (dirs_stay i g) ∙ sound.early.alone i g (within i l);
-      sole = sole_moved s t a r m sound;
     }
 
-pub request_keeps : (s t : Scene) (a : Ask) (r : Reply) → Guarantee s a r t → Sound s → Permitted s a → OnlyMine s t → Invariant t.disk t.history × Early t.disk t.history
-request_keeps s t a r m sound p h = elim (effect _ s a.brick.0 a.request (s.disk.brick a.brick.0) r m.new p.may m.served) [
-  | inl q ↦ (quiet_invariant s t a r m sound h q, quiet_early s t a r m sound h q)
-  | inr q ↦ (made_invariant s t a r m sound h p q, made_early s t a r m sound h p q)
+    -- ---- what it is to others
+    no_names : (g : Gfid) → Some q.file ≡ Some g → OwnsFile s g
+    no_names g e y b l link =
+        let same : g ≡ q.file = cc in
+        absurd (no_link s.disk t.disk s.history.tree at name q.file (most_hops s.history) s.claims makes is_new sound.kept.things b y l
+        (subst (λ (f : Gfid). links_to f (slot_at s.disk b y) ≡ true) same link))
+
+    recorded : (i : ℕ) (g : Gfid) → is_some (file_at s.disk i g) ≡ true → is_some (file_at t.disk i g) ≡ true
+    recorded i g k = elim (gfid_cases g q.file) [
+      | inl e ↦ elim (nat_cases i at) [
+        | inl z ↦ ap (λ (j : ℕ). is_some (file_at t.disk j g)) z ∙ (ap (λ (f : Gfid). is_some (file_at t.disk at f)) e ∙ ap is_some makes.file)
+        | inr ne ↦ ap (λ (c : Contents). is_some (file c.store g)) (off i ne) ∙ k
+      ]
+      | inr ne ↦ ap is_some (files_stay i g ne) ∙ k
+    ]
+
+    bytes_stay : (g : Gfid) → s.history.tree.bytes g ≢ None → (applied (AddFile q.dir q.name q.file) s.history.tree).bytes g ≢ None
+    bytes_stay g k none = elim (gfid_cases g q.file) [
+      | inl e ↦ (let z : Some [] ≡ None = sym (put_same same_gfid exact_gfid s.history.tree.bytes q.file (Some [])) ∙ (ap (applied (AddFile q.dir q.name q.file) s.history.tree).bytes (sym e) ∙ none) in cc)
+      | inr ne ↦ k (sym (put_other same_gfid exact_gfid s.history.tree.bytes q.file (Some []) g ne) ∙ none)
+    ]
+
+    one_slot : OneSlot s (name_places (Create q.dir q.name q.file)) name (Some q.file) t.disk (applied (AddFile q.dir q.name q.file) s.history.tree)
+    one_slot = record {
+      brick = at;
+      framed = makes.framed;
+      slot = refl;
+      dropped = refl;
+      dir = refl;
+      file = refl;
+      guards = inl may.holds;
+      owns = no_names;
+      names = λ y ne. put_other same_entry exact_entry s.history.tree.names name (Some (IsFile q.file)) y ne;
+      dirs = λ g. refl;
+      bytes = bytes_stay;
+      recorded = recorded;
+    }
+
+    touches : Touches s t.disk t.history.tree
+    touches = subst (Touches s t.disk) (sym made_tree) (one_slot_touches s (name_places (Create q.dir q.name q.file)) name (Some q.file) t.disk (applied (AddFile q.dir q.name q.file) s.history.tree) one_slot)
+
+    made_transition : Transition s.who.0 s.disk s.history s.claims t.disk t.history t.claims
+    made_transition = record {
+      count = m.disk.count;
+      kept = made_invariant;
+      early = made_early;
+      later = m.later;
+      pending = others_wait;
+      claims = λ w ne. ap (λ (x : ℕ → Claim). x w) m.claims;
+      elsewhere = elsewhere;
+      others = λ w r ne. others_of s w r ne sound.kept.some_brick sound.kept.things.locks t.disk t.history t.claims touches m.run m.weights m.later m.past;
+    }
+
+pub request_transition : (s t : Scene) (a : Ask) (r : Reply) → Guarantee s a r t → Sound s → Permitted s a → OnlyMine s t → Transition s.who.0 s.disk s.history s.claims t.disk t.history t.claims
+request_transition s t a r m sound p h = elim (effect _ s a.brick.0 a.request (s.disk.brick a.brick.0) m.real m.new p.may m.served) [
+  | inl q ↦ quiet_transition s t a r m sound p h q
+  | inr q ↦ made_transition s t a r m sound p h q
 ]

@@ -2,8 +2,8 @@
 use Rattle.std.proofs.Common.{◌≡◌, ◌≢◌, ◌<◌, ℕ, Bool, true, false, List, refl, sym, ap, ◌∙◌, subst, inl, inr, ◌⊎◌}
 use Rattle.std.specs.Prelude.{Option, Some, None, is_some, ◌||◌}
 use Rattle.dht_types.proofs.PutLaws.{exact_gfid}
-use Rattle.dht_types.specs.Gfid.{Entry}
-use Rattle.dht_types.specs.Tree.{Node, IsFile}
+use Rattle.dht_types.specs.Gfid.{Entry, home}
+use Rattle.dht_types.specs.Tree.{Node, IsFile, IsDir}
 use Rattle.dht_types.specs.History.{History}
 use Rattle.dht_types.specs.declared.identifiers.Gfid.{Gfid}
 use Rattle.dht_types.specs.declared.identifiers.BrickNo.{BrickNo}
@@ -16,16 +16,17 @@ use Rattle.dht_types.specs.declared.stored.Slot.{Slot}
 use Rattle.dht_types.specs.declared.stored.Record.{Record}
 use Rattle.dht_types.specs.declared.stored.Record.TheVariants as stored
 use Rattle.dht_brick.specs.Parts.{is_file, is_copy, is_standlink, is_live}
+use Rattle.dht_section.specs.Claims.{Claim}
 use Rattle.dht_section.specs.Disk.{Disk, file_in, slot_at, file_at}
-use Rattle.dht_section.specs.Truth.{AllShow, TruthIs, AFile, main_shows, standby_shows, meaning_of, NameTruth, main_bytes, standby_bytes, FileTruth, IsInUse, ByName, ByOpen, ByBytes, Stands, Placed}
-use Rattle.dht_section.specs.Early.{Early, IsPlain, IsUnmoved}
+use Rattle.dht_section.specs.Truth.{AllShow, TruthIs, Meaning, AFile, ADirectory, main_shows, standby_shows, meaning_of, NameTruth, main_bytes, standby_bytes, FileTruth, IsInUse, ByName, ByOpen, ByBytes, Stands, Placed}
+use Rattle.dht_section.specs.Early.{Early, IsUnmoved}
 use Rattle.dht_section.specs.Files.{RecordsAs, HasName}
 use Rattle.dht_section.specs.Invariant.{Invariant}
 use Rattle.dht_section.specs.Names.{NameInvariant}
-use Rattle.dht_section.specs.Shapes.{NameShape, Bare, Folder, Plain, Marked, Contested, Standing, Copied, Committed, NameFits, FileShape, Gone, Live, Moving, Copying, Moved, FileFits, here, either, main_at, standby_at, core_at, node_of, body, record_at, main_brick, bytes_shown}
+use Rattle.dht_section.specs.Shapes.{NameShape, Bare, Folder, Plain, Marked, Contested, Standing, Copied, Committed, NameFits, FileShape, Gone, Live, Moving, Copying, Moved, FileFits, here, when_on, either, main_at, standby_at, core_at, node_of, body, record_at, main_brick, bytes_shown}
 use Rattle.dht_section.specs.Views.{visible, cores_of, links_to, view_of}
-use Rattle.dht_section.proofs.EarlyLaws.{nat_cases, here_at, here_off, plain_shape, core_plain, stands_plainly}
-use Rattle.dht_invariant.proofs.Basics.{none_some, some_same}
+use Rattle.dht_invariant.proofs.Basics.{nat_cases, none_some, some_same, here_at, here_off}
+use Rattle.dht_invariant.proofs.EarlyLaws.{stands_plainly}
 use Rattle.dht_invariant.proofs.Frames.{links_core}
 
 -- ---- truths
@@ -62,16 +63,25 @@ hides_here b g x none some i = elim (nat_cases i b) [
 
 -- ---- names
 
--- the truth of a name in each shape, as long as no name is a directory's
-shape_truth : (count : ℕ) (h : NameShape) → NameFits count h → ((g : Gfid) (on : ℕ → Bool) → h ≡ Folder g on → ⊥) → TruthIs count (λ i. main_shows (main_at h i)) (λ i. standby_shows (standby_at h i)) (meaning_of (node_of h))
-shape_truth count Bare fits bar = (λ i l. refl, λ i l. refl)
-shape_truth count (Folder g on) fits bar = absurd (bar g on refl)
-shape_truth count (Plain b f) fits bar = inl (shows_here count b main_shows (File f None) (AFile f) fits refl refl)
-shape_truth count (Marked b f x) fits bar = inl (shows_here count b main_shows (File f (Some x)) (AFile f) fits.0 refl refl)
-shape_truth count (Contested b f x g) fits bar = inl (shows_here count b main_shows (File f (Some x)) (AFile f) fits.0 refl refl)
-shape_truth count (Standing x g) fits bar = inr (λ i l. refl, shows_here count x standby_shows (StandLink g) (AFile g) fits refl refl)
-shape_truth count (Copied b f t) fits bar = inl (shows_here count b main_shows (File f None) (AFile f) fits.0 refl refl)
-shape_truth count (Committed t f) fits bar = inr (λ i l. refl, shows_here count t standby_shows (Copy f) (AFile f) fits refl refl)
+folder_shows : (g : Gfid) (v : Bool) (y : Meaning) → main_shows (when_on v (Dir g)) ≡ Some y → y ≡ ADirectory g
+folder_shows g true y h = (let z : Some (ADirectory g) ≡ Some y = h in cc)
+folder_shows g false y h = absurd (let z : None ≡ Some y = h in cc)
+
+-- the truth of a name in each shape
+shape_truth : (count : ℕ) (h : NameShape) → NameFits count h → TruthIs count (λ i. main_shows (main_at h i)) (λ i. standby_shows (standby_at h i)) (meaning_of (node_of h))
+shape_truth count Bare fits = (λ i l. refl, λ i l. refl)
+shape_truth count (Folder g on) fits = inl (record {
+  brick = home g;
+  there = fits.0;
+  shows = ap (λ (v : Bool). main_shows (when_on v (Dir g))) fits.1;
+  same = λ b y l h. folder_shows g (on b) y h;
+})
+shape_truth count (Plain b f) fits = inl (shows_here count b main_shows (File f None) (AFile f) fits refl refl)
+shape_truth count (Marked b f x) fits = inl (shows_here count b main_shows (File f (Some x)) (AFile f) fits.0 refl refl)
+shape_truth count (Contested b f x g) fits = inl (shows_here count b main_shows (File f (Some x)) (AFile f) fits.0 refl refl)
+shape_truth count (Standing x g) fits = inr (λ i l. refl, shows_here count x standby_shows (StandLink g) (AFile g) fits refl refl)
+shape_truth count (Copied b f t) fits = inl (shows_here count b main_shows (File f None) (AFile f) fits.0 refl refl)
+shape_truth count (Committed t f) fits = inr (λ i l. refl, shows_here count t standby_shows (Copy f) (AFile f) fits refl refl)
 
 -- a linkto shows nothing
 shows_visible : (m : Option Main) → main_shows m ≡ main_shows (visible m)
@@ -80,16 +90,12 @@ shows_visible (Some (Dir g)) = refl
 shows_visible (Some (File f over)) = refl
 shows_visible (Some (Linkto value)) = refl
 
-folder_plain : (g : Gfid) (on : ℕ → Bool) → (Folder g on ≡ Bare) ⊎ ((b : ℕ) × (f : Gfid) × (Folder g on ≡ Plain b f)) → ⊥
-folder_plain g on (inl e) = cc
-folder_plain g on (inr h) = (let e : Folder g on ≡ Plain h.0 h.1 = h.2 in cc)
-
-name_truth : (d : Disk) (x : Entry) (told : Option Node) → NameInvariant d.count (cores_of d x) told → ((b : ℕ) → b < d.count → IsPlain (slot_at d b x)) → NameTruth d x told
-name_truth d x told n p = subst (NameTruth d x) (sym n.1.node)
+name_truth : (d : Disk) (x : Entry) (told : Option Node) → NameInvariant d.count (cores_of d x) told → NameTruth d x told
+name_truth d x told n = subst (NameTruth d x) (sym n.1.node)
     (truth_same d.count (λ i. main_shows (main_at n.0 i)) (λ i. standby_shows (standby_at n.0 i)) (λ b. main_shows (slot_at d b x).main) (λ b. standby_shows (slot_at d b x).standby) (meaning_of (node_of n.0))
     (λ b l. shows_visible (slot_at d b x).main ∙ ap (λ (s : Slot). main_shows s.main) (n.1.has b l))
     (λ b l. ap (λ (s : Slot). standby_shows s.standby) (n.1.has b l))
-    (shape_truth d.count n.0 n.1.fits (λ g on e. folder_plain g on (subst (λ (h : NameShape). (h ≡ Bare) ⊎ ((b : ℕ) × (f : Gfid) × (h ≡ Plain b f))) e (plain_shape d.count n.0 n.1.fits (λ b l. subst IsPlain (sym (core_plain (slot_at d b x) (p b l)) ∙ n.1.has b l) (p b l)))))))
+    (shape_truth d.count n.0 n.1.fits))
 
 -- ---- files
 
@@ -151,7 +157,7 @@ file_same g f e = cc
 
 shape_shows : (count : ℕ) (h : NameShape) (f : Gfid) → NameFits count h → node_of h ≡ Some (IsFile f) → IsShown count h f
 shape_shows count Bare f fits e = absurd (let z : None ≡ Some (IsFile f) = e in cc)
-shape_shows count (Folder g on) f fits e = absurd (let z : None ≡ Some (IsFile f) = e in cc)
+shape_shows count (Folder g on) f fits e = absurd (let z : Some (IsDir g) ≡ Some (IsFile f) = e in cc)
 shape_shows count (Plain b g) f fits e = (b, fits, inl (links_main f g None (core_at (Plain b g) b) (here_at (Some (File g None)) b) (file_same g f e)))
 shape_shows count (Marked b g x) f fits e = (b, fits.0, inl (links_main f g (Some x) (core_at (Marked b g x) b) (here_at (Some (File g (Some x))) b) (file_same g f e)))
 shape_shows count (Contested b g x o) f fits e = (b, fits.0, inl (links_main f g (Some x) (core_at (Contested b g x o) b) (here_at (Some (File g (Some x))) b) (file_same g f e)))
@@ -181,8 +187,8 @@ told_same None tree same some seen = absurd (seen refl)
 told_same (Some x) None same some seen = absurd (some refl)
 told_same (Some x) (Some y) same some seen = ap Some (same y x refl refl)
 
-file_truth : (d : Disk) (s : History) (f : Gfid) → Invariant d s → IsInUse d s.tree f → FileTruth d f (s.tree.bytes f)
-file_truth d s f k c = subst (FileTruth d f) (told c) (bytes_truth d f (k.things.files f).shape (k.things.files f).records)
+file_truth : (d : Disk) (s : History) (p : ℕ → Claim) (f : Gfid) → Invariant d s p → IsInUse d s.tree f → FileTruth d f (s.tree.bytes f)
+file_truth d s p f k c = subst (FileTruth d f) (told c) (bytes_truth d f (k.things.files f).shape (k.things.files f).records)
   where
     told : IsInUse d s.tree f → bytes_shown (k.things.files f).shape ≡ s.tree.bytes f
     told (ByName x e) = (k.things.files f).truth (has_name d x f (subst (NameInvariant d.count (cores_of d x)) e (k.things.names x)))
@@ -194,11 +200,11 @@ file_truth d s f k c = subst (FileTruth d f) (told c) (bytes_truth d f (k.things
           | inr m ↦ some_none (standby_bytes (file_at d b f)) m (t.1 b l)
         ]))
 
-pub stands_of : (d : Disk) (s : History) → Invariant d s → Early d s → Stands d s.tree
-stands_of d s k now = record {
-  names = λ x. name_truth d x (s.tree.names x) (k.things.names x) (now.plain x);
+pub stands_of : (d : Disk) (s : History) (p : ℕ → Claim) → Invariant d s p → Early d s → Stands d s.tree
+stands_of d s p k now = record {
+  names = λ x. name_truth d x (s.tree.names x) (k.things.names x);
   dirs = λ g. (k.things.dirs g).homed;
-  bytes = λ f c. file_truth d s f k c;
+  bytes = λ f c. file_truth d s p f k c;
 }
 
 -- ---- each file of the tree stands once, on its holder
@@ -217,8 +223,8 @@ live_by : (r : Option Record) → is_some (body r) ≡ true → ((x : Record) �
 live_by None h u = absurd (let z : false ≡ true = h in cc)
 live_by (Some x) h u = ap (λ (y : Record). is_live (Some y)) (u x refl).1
 
-pub placed_of : (d : Disk) (s : History) (x : Entry) (f : Gfid) → Invariant d s → Early d s → s.tree.names x ≡ Some (IsFile f) → Placed d x
-placed_of d s x f k now told = elim (stands_plainly d x (s.tree.names x) (k.things.names x) (now.plain x)) [
+pub placed_of : (d : Disk) (s : History) (p : ℕ → Claim) (x : Entry) (f : Gfid) → Invariant d s p → Early d s → s.tree.names x ≡ Some (IsFile f) → Placed d x
+placed_of d s p x f k now told = elim (stands_plainly d x (s.tree.names x) (k.things.names x) (now.plain x)) [
   | inl z ↦ absurd (let w : None ≡ Some (IsFile f) = sym z.node ∙ told in cc)
   | inr z ↦ record {
     brick = z.brick;

@@ -1,44 +1,162 @@
 -- What is proved of the invariant.
-use Rattle.std.specs.Prelude.{ℕ, ◌<◌, ◌≤◌, ◌≡◌, Some, List, length}
+use Rattle.std.specs.Prelude.{ℕ, ◌<◌, ◌≤◌, ◌≡◌, nat_eq, Some, List, length}
 use Rattle.dht_types.specs.Gfid.{Entry}
+use Rattle.dht_types.specs.Put.{put}
 use Rattle.dht_types.specs.Tree.{Tree, IsFile, applied}
-use Rattle.dht_types.specs.History.{History, with_line, start}
-use Rattle.dht_types.specs.declared.lines.Line.TheVariants.{Volume}
 use Rattle.dht_types.specs.Volume.{HasWeight}
-use Rattle.dht_types.specs.declared.identifiers.Gfid.{Gfid}
+use Rattle.dht_types.specs.History.{History, start, with_line}
 use Rattle.dht_types.specs.declared.calls.TreeStep.TheVariants.{AddFile}
-use Rattle.dht_section.specs.Disk.{Disk}
-use Rattle.dht_section.specs.Truth.{Stands, Placed}
-use Rattle.dht_section.specs.Invariant.{Things, Invariant}
-use Rattle.dht_section.specs.Early.{Early}
-use Rattle.dht_section.specs.Scene.{Scene, Sound, Permitted, Guarantee}
-use Rattle.dht_section.specs.declared.machine.Ask.{Ask}
+use Rattle.dht_types.specs.declared.identifiers.BrickNo.{BrickNo}
+use Rattle.dht_types.specs.declared.identifiers.CallNo.{CallNo}
+use Rattle.dht_types.specs.declared.identifiers.ClientNo.{ClientNo}
+use Rattle.dht_types.specs.declared.identifiers.Gfid.{Gfid}
+use Rattle.dht_types.specs.declared.lines.Line.{Line}
+use Rattle.dht_types.specs.declared.lines.Line.TheVariants.{Volume, Died}
+use Rattle.dht_brick.specs.Contents.{Contents}
+use Rattle.dht_brick.specs.Outcome.{Do}
+use Rattle.dht_brick.specs.Rows.{row}
+use Rattle.dht_brick.specs.declared.replies.Given.{Given}
 use Rattle.dht_brick.specs.declared.replies.Reply.{Reply}
-use Rattle.dht_invariant.specs.After.{OnlyMine}
-use Rattle.dht_invariant.specs.New.{AreNew}
+use Rattle.dht_brick.specs.declared.requests.NameRequest.{NameRequest}
+use Rattle.dht_brick.specs.declared.requests.NameRequest.TheVariants.{MakeLinkto, DropLinkto}
+use Rattle.dht_brick.specs.declared.requests.Request.{Request}
+use Rattle.dht_brick.specs.declared.requests.Request.TheVariants.{OnNames}
+use Rattle.dht_section.specs.Claims.{Claim, MayClaim, no_claim}
+use Rattle.dht_section.specs.Disk.{Disk, holders}
+use Rattle.dht_section.specs.Early.{Early}
+use Rattle.dht_section.specs.Invariant.{Invariant, Things, most_hops}
+use Rattle.dht_section.specs.Moves.{Guarantee, request_step, tree_by}
+use Rattle.dht_section.specs.Permits.{Permitted, MayName}
+use Rattle.dht_section.specs.Scene.{Scene, Sound, NameStands}
+use Rattle.dht_section.specs.Shapes.{NameShape}
+use Rattle.dht_section.specs.Truth.{Stands, Placed}
+use Rattle.dht_section.specs.declared.machine.Ask.{Ask}
+use Rattle.dht_invariant.specs.Locality.{ChangesWithin, CarriesOut, ShowsTheSame, ClausesStand, OthersStand, reach}
 use Rattle.dht_invariant.specs.Makes.{Makes, IsNew}
+use Rattle.dht_invariant.specs.New.{AreNew}
+use Rattle.dht_invariant.specs.Touches.{Touches}
+use Rattle.dht_invariant.specs.Transition.{Transition, OnlyMine, IsQuiet, FreesClient}
 
 -- a create that is carried out keeps the invariant of each thing
 abbrev pub CreateKeeps : Type 0
-CreateKeeps = (d e : Disk) (t : Tree) (b : ℕ) (x : Entry) (f : Gfid) (top : ℕ)
-    → Makes d e b x f → IsNew d t x f → Things d t top → Things e (applied (AddFile x.0 x.1 f) t) top
+CreateKeeps =
+    (d e : Disk) (t : Tree) (b : ℕ) (x : Entry) (f : Gfid) (top : ℕ) (p : ℕ → Claim)
+    → Makes d e b x f → IsNew d t x f → Things d t top p → Things e (applied (AddFile x.0 x.1 f) t) top p
 
--- a permitted request, as it was served, keeps the invariant, and what holds beside it for now
-abbrev pub RequestsKeep : Type 0
-RequestsKeep = (s t : Scene) (a : Ask) (r : Reply)
+-- a permitted request, however it was answered
+abbrev pub RequestsAreTransitions : Type 0
+RequestsAreTransitions =
+    (s t : Scene) (a : Ask) (r : Reply)
     → Guarantee s a r t → Sound s → Permitted s a → OnlyMine s t
-    → Invariant t.disk t.history × Early t.disk t.history
+    → Transition s.who.0 s.disk s.history s.claims t.disk t.history t.claims
+
+-- a client claims something else
+abbrev pub ClaimsAreTransitions : Type 0
+ClaimsAreTransitions =
+    (c : ℕ) (d : Disk) (s : History) (p : ℕ → Claim) (new : Claim)
+    → Invariant d s p → Early d s → MayClaim d.count (λ b key. holders d b key c) (p c) new
+    → Transition c d s p d s (put nat_eq p c new)
+
+-- a line comes that tells nothing of the tree
+abbrev pub LinesAreTransitions : Type 0
+LinesAreTransitions =
+    (c : ℕ) (d : Disk) (s : History) (p : ℕ → Claim) (x : Line)
+    → Invariant d s p → Early d s → IsQuiet c s x → Transition c d s p d (with_line s x) p
+
+-- a client dies
+abbrev pub DeathsAreTransitions : Type 0
+DeathsAreTransitions =
+    (c : ClientNo) (d e : Disk) (s : History) (p : ℕ → Claim)
+    → Invariant d s p → Early d s → FreesClient c.0 d e
+    → Transition c.0 d s p e (with_line s (Died c)) (put nat_eq p c.0 no_claim)
+
+-- one after the other is one
+abbrev pub TransitionsCompose : Type 0
+TransitionsCompose =
+    (c : ℕ) (d e f : Disk) (s t u : History) (p q r : ℕ → Claim)
+    → Invariant d s p → Transition c d s p e t q → Transition c e t q f u r → Transition c d s p f u r
+
+-- all of these
+pub record TransitionLaws : Type 0 where
+  pub request : RequestsAreTransitions
+  pub claim : ClaimsAreTransitions
+  pub line : LinesAreTransitions
+  pub death : DeathsAreTransitions
+  pub compose : TransitionsCompose
+
+-- a request that makes or drops a linkto
+abbrev pub IsOfLinkto : NameRequest → Type 0
+IsOfLinkto (MakeLinkto d n value) = Unit {0}
+IsOfLinkto (DropLinkto d n) = Unit {0}
+IsOfLinkto q = ⊥
+
+-- such a request, however it was answered: each thing is as it should be, no name stands otherwise and the tree is as it was, and nothing is touched but the guarded name
+pub record LinktoLeaves (s t : Scene) : Type 0 where
+  pub things : Things t.disk t.history.tree (most_hops t.history) t.claims
+  pub tree : t.history.tree ≡ s.history.tree
+  pub shapes : (x : Entry) (h : NameShape) → NameStands s x h → NameStands t x h
+  pub touches : Touches s t.disk t.history.tree
+
+abbrev pub LinktosKeep : Type 0
+LinktosKeep =
+    (s t : Scene) (b : BrickNo) (q : NameRequest) (r : Reply)
+    → IsOfLinkto q → b.0 < s.disk.count → MayName s b.0 q
+    → Guarantee s (record { brick = b; request = OnNames q }) r t → Sound s
+    → LinktoLeaves s t
+
+-- nobody claims anything
+abbrev pub no_claims : ℕ → Claim
+no_claims c = no_claim
 
 -- new bricks meet the invariant, and what holds beside it for now, at the volume line
 abbrev pub NewBricksMeet : Type 0
-NewBricksMeet = (ws : List ℕ) (d : Disk)
+NewBricksMeet =
+    (ws : List ℕ) (d : Disk)
     → AreNew ws d → HasWeight ws → d.count ≡ length ws → 0 < d.count → d.count ≤ 32
-    → Invariant d (with_line start (Volume ws)) × Early d (with_line start (Volume ws))
+    → Invariant d (with_line start (Volume ws)) no_claims × Early d (with_line start (Volume ws))
 
 -- where the invariant holds, the bricks stand for the tree, and each name of the tree is placed
 abbrev pub BricksStand : Type 0
-BricksStand = (d : Disk) (s : History) → Invariant d s → Early d s → Stands d s.tree
+BricksStand = (d : Disk) (s : History) (p : ℕ → Claim) → Invariant d s p → Early d s → Stands d s.tree
 
 abbrev pub NamesArePlaced : Type 0
-NamesArePlaced = (d : Disk) (s : History) (e : Entry) (f : Gfid)
-    → Invariant d s → Early d s → s.tree.names e ≡ Some (IsFile f) → Placed d e
+NamesArePlaced =
+    (d : Disk) (s : History) (p : ℕ → Claim) (e : Entry) (f : Gfid)
+    → Invariant d s p → Early d s → s.tree.names e ≡ Some (IsFile f) → Placed d e
+
+-- ---- locality
+
+-- a brick that carries out a request changes at most one slot, one directory record, one file record,
+-- and one lock, registration or seal; but the linktos of a directory go with it
+abbrev pub RowsAreLocal : Type 0
+RowsAreLocal =
+    (bricks : List (List ℕ)) (client : ClientNo) (call : CallNo) (q : Request) (c new : Contents) (given : Given)
+    → row bricks client call q c ≡ Do given new → ChangesWithin (reach client call q c.store) c new
+
+-- what all bricks show of a thing that the request does not name is as it was
+abbrev pub RequestsAreLocal : Type 0
+RequestsAreLocal =
+    (client : ClientNo) (call : CallNo) (b : ℕ) (q : Request) (d e : Disk)
+    → CarriesOut client call b q d e → ShowsTheSame (reach client call q (d.brick b).store) b d e
+
+-- each clause is of one thing, and reads no more than what is shown of it
+abbrev pub ClausesAreLocal : Type 0
+ClausesAreLocal =
+    (d e : Disk) (t u : Tree) (low top : ℕ) (p q : ℕ → Claim)
+    → e.count ≡ d.count → low ≤ top → ClausesStand d e t u low top p q
+
+-- so a request that was carried out leaves each clause on a thing that it does not name
+abbrev pub RequestsLeaveOthers : Type 0
+RequestsLeaveOthers =
+    (client : ClientNo) (call : CallNo) (b : ℕ) (q : Request) (d e : Disk)
+    (t : Tree) (low top : ℕ) (claims : ℕ → Claim)
+    → CarriesOut client call b q d e → low ≤ top
+    → OthersStand (reach client call q (d.brick b).store) b d e t (tree_by (request_step q) t) low top claims
+
+-- and so does one that was answered otherwise
+abbrev pub AnswersLeaveOthers : Type 0
+AnswersLeaveOthers =
+    (s t : Scene) (a : Ask) (r : Reply)
+    → Guarantee s a r t
+    → OthersStand (reach s.who s.mine.number a.request (s.disk.brick a.brick.0).store) a.brick.0
+    s.disk t.disk s.history.tree t.history.tree (most_hops s.history) (most_hops t.history) s.claims

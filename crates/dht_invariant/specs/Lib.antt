@@ -1,4 +1,6 @@
 pub mod Makes
-pub mod After
 pub mod New
+pub mod Touches
+pub mod Transition
+pub mod Locality
 pub mod Laws

@@ -1,15 +1,42 @@
 //! Laws of the invariant. They do nothing.
 
-ghost use Rattle.dht_invariant.specs.Laws.{CreateKeeps, RequestsKeep, NewBricksMeet, BricksStand, NamesArePlaced};
+ghost use Rattle.dht_invariant.specs.Laws.{CreateKeeps, TransitionLaws, LinktosKeep};
+ghost use Rattle.dht_invariant.specs.Laws.{RowsAreLocal, RequestsAreLocal};
+ghost use Rattle.dht_invariant.specs.Laws.{ClausesAreLocal, RequestsLeaveOthers, AnswersLeaveOthers};
+ghost use Rattle.dht_invariant.specs.Laws.{NewBricksMeet, BricksStand, NamesArePlaced};
 
 /// A create that is carried out keeps the invariant of each thing.
 pub fn a_create_keeps_each_thing()
     ensures { CreateKeeps }
 {}
 
-/// A permitted request, as it was served, keeps the invariant.
-pub fn requests_keep_the_invariant()
-    ensures { RequestsKeep }
+/// A permitted request, another claim, a line that tells nothing of the tree, and a death keep the
+/// invariant, and are to every other client what others may do; and so are two of them.
+pub fn the_transitions()
+    ensures { TransitionLaws }
+{}
+
+/// A linkto that comes or goes keeps the invariant of each thing, and touches nothing but its
+/// guarded name.
+pub fn a_linkto_keeps_each_thing()
+    ensures { LinktosKeep }
+{}
+
+/// A request that a brick carries out changes at most one slot, one directory record, one file
+/// record, and one lock, registration or seal; but the linktos of a dropped directory go with it.
+/// What all bricks show of any other thing is as it was.
+pub fn requests_are_local()
+    ensures rows { RowsAreLocal }
+    ensures shown { RequestsAreLocal }
+{}
+
+/// Each clause of the invariant on a name, a file, a directory or a lock stands where what is shown
+/// of it is as it was; so a request, carried out or not, leaves each clause on a thing that it does
+/// not name.
+pub fn clauses_are_local()
+    ensures clauses { ClausesAreLocal }
+    ensures others { RequestsLeaveOthers }
+    ensures answers { AnswersLeaveOthers }
 {}
 
 /// New bricks meet the invariant.

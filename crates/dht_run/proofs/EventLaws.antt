@@ -2,7 +2,7 @@
 use Rattle.std.proofs.Common.{◌≡◌, ◌≢◌, ◌<◌, ℕ, List, [], ◌∷◌, ◌++◌, zero, suc, refl, sym, ap, ◌∙◌, subst, inl, inr, length, get_or, arith, append_assoc, length-append}
 use Rattle.std.specs.Prelude.{Option, Some, None, IfSome, Contains, Ok}
 use Rattle.dht_types.specs.declared.events.Event.{Event}
-use Rattle.dht_types.specs.declared.events.Event.TheVariants.{Volume, Call, Step}
+use Rattle.dht_types.specs.declared.events.Event.TheVariants.{Volume, Call, Step, Down, Up, Die}
 use Rattle.dht_sched.specs.Schedule.{schedule_text, IsScheduled, IsOneLine, IsReadOf}
 use Rattle.dht_run.specs.LineReader.{HasNoNewline, HasNoLine}
 use Rattle.dht_run.specs.NextEvent.{HasNoEvent}
@@ -42,6 +42,9 @@ only_one (Volume w) e (inl q) = cc
 only_one (Volume w) e (inr q) = cc
 only_one (Call c call) e q = cc
 only_one (Step c) e q = cc
+only_one (Down b) e q = cc
+only_one (Up b) e q = cc
+only_one (Die c) e q = cc
 
 pub no_event_told : (cut : ℕ) (input : Option (List ℕ)) → ((o : Event) → IsScheduled o → IsOneLine (schedule_text o)) → IfSome input (HasNoLine cut) → IfSome input (HasNoEvent cut)
 no_event_told cut None one h = tt

@@ -5,7 +5,7 @@ use Rattle.std.proofs.lemmas.List.{take_all}
 use Rattle.dht_types.specs.declared.events.Event.{Event}
 use Rattle.dht_types.specs.declared.lines.Line.{Line}
 use Rattle.dht_brick.specs.Bricks.{BrickState}
-use Rattle.dht_sched.specs.Transcript.{lines_text, dump_lines_text, malformed_text}
+use Rattle.dht_sched.specs.Transcript.{lines_text, dump_lines_text, malformed_text, limit_text}
 use Rattle.dht_types.specs.History.{history_of}
 use Rattle.dht_world.specs.Bricks.{AreReady}
 use Rattle.dht_brick.specs.declared.brick.Brick.{Ghosts as BrickGhosts}
@@ -13,11 +13,11 @@ use Rattle.dht_section.specs.declared.caller.Caller.{Ghosts as CallerGhosts}
 use Rattle.dht_world.specs.declared.events.World.{World}
 use Rattle.dht_run.specs.LineReader.{Reader, input_of}
 use Rattle.dht_run.specs.Outside.{after_told, IsAtEnd}
-use Rattle.dht_run.specs.Replay.{Replays, IsDone, StopsAtLine, IsCutShort, MayFollow, EndsAs, dump_all, last_text}
+use Rattle.dht_run.specs.Replay.{Replays, IsDone, StopsAtLine, StopsAtLimit, IsCutShort, MayFollow, EndsAs, dump_all, last_text}
 use Rattle.dht_run.specs.Written.{TakesPrefix, IsCause}
-use Rattle.dht_run.specs.SoFar.{Carried, Reached, ReachedBad, Stopped, EndsSo}
+use Rattle.dht_run.specs.SoFar.{Carried, Reached, ReachedBad, ReachedLimit, Stopped, EndsSo}
 use Rattle.dht_run.specs.declared.ending.Ending.{Ending}
-use Rattle.dht_run.specs.declared.ending.Ending.TheVariants.{Done, Usage, Malformed, SourceFailed, SinkFailed, OutOfMemory}
+use Rattle.dht_run.specs.declared.ending.Ending.TheVariants.{Done, Usage, Malformed, SourceFailed, SinkFailed, OutOfMemory, Limit}
 use Rattle.dht_run.proofs.Told.{after_told-after_told}
 use Rattle.dht_run.proofs.ReplayLaws.{transcript_of}
 
@@ -33,17 +33,21 @@ written_prefix before taken new xs ys n first second = second ∙ (ap (λ t. aft
 pub written_all : (before taken new : Option (List ℕ)) (xs ys : List ℕ) → taken ≡ after_told before xs → new ≡ after_told taken ys → new ≡ after_told before (xs ++ ys)
 written_all before taken new xs ys first second = second ∙ (ap (λ t. after_told t ys) first ∙ after_told-after_told before xs ys)
 
-replays_of : {B C : Type 0} (b : BrickGhosts B) (c : CallerGhosts C) → ((d : C) → c.is_busy d ≡ true → 0 < c.variant d) → (w : World B C) (count : ℕ) (text rest : Option (List ℕ)) (events : List Event) (lines : List Line) → Carried b c w count text rest events lines → Replays b.state w.bricks.items text rest events lines
+-- a running call sends another request
+abbrev pub GoesOn : {C : Type 0} → CallerGhosts C → Type 0
+GoesOn {C = C} c = (x : C) → c.is_busy x ≡ true → 0 < (c.stage x).variant
+
+replays_of : {B C : Type 0} (b : BrickGhosts B) (c : CallerGhosts C) → GoesOn c → (w : World B C) (count : ℕ) (text rest : Option (List ℕ)) (events : List Event) (lines : List Line) → Carried b c w count text rest events lines → Replays b.state w.bricks.items text rest events lines
 replays_of b c goes_on w count text rest events lines h = let fit = h.at.led.fit in record {
   schedule = h.schedule;
   limit = h.limit;
-  transcript = transcript_of b c goes_on w events lines h.at h.follows;
-  ready = subst (λ (ws : List ℕ). AreReady b.state ws (history_of lines).run w.bricks.items) (sym fit.same_weights) (subst (λ (run : ℕ). AreReady b.state w.weights run w.bricks.items) (sym fit.same_run) h.at.ready);
+  transcript = transcript_of b c goes_on w events lines h.at h.follows h.limited;
+  ready = subst (λ (ws : List ℕ). AreReady b.state ws (history_of lines).run (history_of lines).down w.bricks.items) (sym fit.same_weights) (subst (λ (run : ℕ). AreReady b.state w.weights run (history_of lines).down w.bricks.items) (sym fit.counts.run) h.at.ready);
   prefix = h.prefix;
 }
 
 -- where nothing is written behind the lines
-pub cut_short : {B C : Type 0} (b : BrickGhosts B) (c : CallerGhosts C) → ((d : C) → c.is_busy d ≡ true → 0 < c.variant d) → (w : World B C) (text before taken : Option (List ℕ)) → Stopped b c w text before taken → IsCutShort b.state w.bricks.items text before taken
+pub cut_short : {B C : Type 0} (b : BrickGhosts B) (c : CallerGhosts C) → GoesOn c → (w : World B C) (text before taken : Option (List ℕ)) → Stopped b c w text before taken → IsCutShort b.state w.bricks.items text before taken
 cut_short b c goes_on w text before taken h = record {
   events = h.events;
   lines = h.lines;
@@ -55,7 +59,7 @@ cut_short b c goes_on w text before taken h = record {
 }
 
 -- where what stands behind the lines was written in part
-short : {B C : Type 0} (b : BrickGhosts B) (c : CallerGhosts C) → ((d : C) → c.is_busy d ≡ true → 0 < c.variant d) → (w : World B C) (count : ℕ) (text rest before taken new : Option (List ℕ)) (events : List Event) (lines : List Line) (last : List ℕ) → Carried b c w count text rest events lines → taken ≡ after_told before (lines_text lines) → MayFollow b.state w.bricks.items events rest last → TakesPrefix taken last new → IsCutShort b.state w.bricks.items text before new
+short : {B C : Type 0} (b : BrickGhosts B) (c : CallerGhosts C) → GoesOn c → (w : World B C) (count : ℕ) (text rest before taken new : Option (List ℕ)) (events : List Event) (lines : List Line) (last : List ℕ) → Carried b c w count text rest events lines → taken ≡ after_told before (lines_text lines) → MayFollow b.state w.bricks.items events lines rest last → TakesPrefix taken last new → IsCutShort b.state w.bricks.items text before new
 short b c goes_on w count text rest before taken new events lines last h written follows told = record {
   events = events;
   lines = lines;
@@ -67,7 +71,7 @@ short b c goes_on w count text rest before taken new events lines last h written
 }
 
 -- where the dump was written
-pub ends_done : {B C : Type 0} (b : BrickGhosts B) (c : CallerGhosts C) → ((d : C) → c.is_busy d ≡ true → 0 < c.variant d) → (w : World B C) (count : ℕ) (text rest before taken new : Option (List ℕ)) → Reached b c w count text rest before taken → IsAtEnd rest → new ≡ after_told taken (dump_lines_text (dump_all b.state w.bricks.items)) → IsDone b.state w.bricks.items text rest before new
+pub ends_done : {B C : Type 0} (b : BrickGhosts B) (c : CallerGhosts C) → GoesOn c → (w : World B C) (count : ℕ) (text rest before taken new : Option (List ℕ)) → Reached b c w count text rest before taken → IsAtEnd rest → new ≡ after_told taken (dump_lines_text (dump_all b.state w.bricks.items)) → IsDone b.state w.bricks.items text rest before new
 ends_done b c goes_on w count text rest before taken new h end told =
     let n = h.carried.counted in
     let some = h.carried.some in
@@ -81,7 +85,7 @@ ends_done b c goes_on w count text rest before taken new h end told =
     }
 
 -- where the number of an invalid line was written
-pub ends_malformed : {B C : Type 0} (b : BrickGhosts B) (c : CallerGhosts C) → ((d : C) → c.is_busy d ≡ true → 0 < c.variant d) → (w : World B C) (count : ℕ) (text before taken new : Option (List ℕ)) → ReachedBad b c w count text before taken → new ≡ after_told taken (malformed_text (count + 1)) → StopsAtLine b.state w.bricks.items text before new
+pub ends_malformed : {B C : Type 0} (b : BrickGhosts B) (c : CallerGhosts C) → GoesOn c → (w : World B C) (count : ℕ) (text before taken new : Option (List ℕ)) → ReachedBad b c w count text before taken → new ≡ after_told taken (malformed_text (count + 1)) → StopsAtLine b.state w.bricks.items text before new
 ends_malformed b c goes_on w count text before taken new h told = record {
   events = h.events;
   lines = h.lines;
@@ -89,6 +93,17 @@ ends_malformed b c goes_on w count text before taken new h told = record {
   replays = replays_of b c goes_on w count text h.input h.events h.lines h.carried;
   malformed = h.malformed;
   written = written_all before taken new (lines_text h.lines) (malformed_text (length h.events + 1)) h.written (told ∙ ap (λ n. after_told taken (malformed_text (n + 1))) h.carried.counted);
+}
+
+-- where it was written that the run has had all its steps
+pub ends_limit : {B C : Type 0} (b : BrickGhosts B) (c : CallerGhosts C) → GoesOn c → (w : World B C) (count : ℕ) (text before taken new : Option (List ℕ)) → ReachedLimit b c w count text before taken → new ≡ after_told taken limit_text → StopsAtLimit b.state w.bricks.items text before new
+ends_limit b c goes_on w count text before taken new h told = record {
+  events = h.events;
+  lines = h.lines;
+  rest = h.input;
+  replays = replays_of b c goes_on w count text h.input h.events h.lines h.carried;
+  past_limit = h.past_limit;
+  written = written_all before taken new (lines_text h.lines) limit_text h.written told;
 }
 
 took_nothing : (x : Option (List ℕ)) → after_told x [] ≡ x
@@ -108,10 +123,11 @@ some_carried b c w count text rest events lines h none =
     omega arith
 
 -- where all was written that stands behind the lines
-pub ends_whole : {B C : Type 0} (b : BrickGhosts B) (c : CallerGhosts C) → ((d : C) → c.is_busy d ≡ true → 0 < c.variant d) → (w : World B C) (count : ℕ) (r : Reader) (text rest before taken new : Option (List ℕ)) (ending : Ending) → EndsSo b c w count r text rest before taken ending → new ≡ after_told taken (last_text b.state w.bricks.items (count + 1) ending) → EndsAs b.state w.bricks.items text rest before new ending
+pub ends_whole : {B C : Type 0} (b : BrickGhosts B) (c : CallerGhosts C) → GoesOn c → (w : World B C) (count : ℕ) (r : Reader) (text rest before taken new : Option (List ℕ)) (ending : Ending) → EndsSo b c w count r text rest before taken ending → new ≡ after_told taken (last_text b.state w.bricks.items (count + 1) ending) → EndsAs b.state w.bricks.items text rest before new ending
 ends_whole b c goes_on w count r text rest before taken new Usage h told = absurd h
 ends_whole b c goes_on w count r text rest before taken new Done h told = ends_done b c goes_on w count text rest before taken new h.0 h.1 told
 ends_whole b c goes_on w count r text rest before taken new Malformed h told = ends_malformed b c goes_on w count text before taken new h told
+ends_whole b c goes_on w count r text rest before taken new Limit h told = ends_limit b c goes_on w count text before taken new h told
 ends_whole b c goes_on w count r text rest before taken new SinkFailed h told = cut_short b c goes_on w text before new (subst (Stopped b c w text before) (sym (told ∙ took_nothing taken)) h)
 ends_whole b c goes_on w count r text rest before taken new OutOfMemory h told = cut_short b c goes_on w text before new (subst (Stopped b c w text before) (sym (told ∙ took_nothing taken)) h)
 ends_whole b c goes_on w count r text rest before taken new SourceFailed h told = (let p = h.0 in record {
@@ -124,13 +140,15 @@ ends_whole b c goes_on w count r text rest before taken new SourceFailed h told 
 })
 
 -- where a prefix of it was written
-pub ends_in_part : {B C : Type 0} (b : BrickGhosts B) (c : CallerGhosts C) → ((d : C) → c.is_busy d ≡ true → 0 < c.variant d) → (w : World B C) (count : ℕ) (r : Reader) (text rest before taken new : Option (List ℕ)) (ending : Ending) → EndsSo b c w count r text rest before taken ending → TakesPrefix taken (last_text b.state w.bricks.items (count + 1) ending) new → IsCutShort b.state w.bricks.items text before new
+pub ends_in_part : {B C : Type 0} (b : BrickGhosts B) (c : CallerGhosts C) → GoesOn c → (w : World B C) (count : ℕ) (r : Reader) (text rest before taken new : Option (List ℕ)) (ending : Ending) → EndsSo b c w count r text rest before taken ending → TakesPrefix taken (last_text b.state w.bricks.items (count + 1) ending) new → IsCutShort b.state w.bricks.items text before new
 ends_in_part b c goes_on w count r text rest before taken new Usage h told = absurd h
 ends_in_part b c goes_on w count r text rest before taken new Done h told = (let p = h.0 in
     let some = some_carried b c w count text rest p.events p.lines p.carried in
     short b c goes_on w count text rest before taken new p.events p.lines (last_text b.state w.bricks.items (count + 1) Done) p.carried p.written (inr (inl (some, h.1, refl))) told)
 ends_in_part b c goes_on w count r text rest before taken new Malformed h told =
-    short b c goes_on w count text h.input before taken new h.events h.lines (malformed_text (count + 1)) h.carried h.written (inr (inr (h.malformed, ap (λ n. malformed_text (n + 1)) h.carried.counted))) told
+    short b c goes_on w count text h.input before taken new h.events h.lines (malformed_text (count + 1)) h.carried h.written (inr (inr (inl (h.malformed, ap (λ n. malformed_text (n + 1)) h.carried.counted)))) told
+ends_in_part b c goes_on w count r text rest before taken new Limit h told =
+    short b c goes_on w count text h.input before taken new h.events h.lines limit_text h.carried h.written (inr (inr (inr (h.past_limit, refl)))) told
 ends_in_part b c goes_on w count r text rest before taken new SinkFailed h told = cut_short b c goes_on w text before new (subst (Stopped b c w text before) (sym (took_none taken new told)) h)
 ends_in_part b c goes_on w count r text rest before taken new OutOfMemory h told = cut_short b c goes_on w text before new (subst (Stopped b c w text before) (sym (took_none taken new told)) h)
 ends_in_part b c goes_on w count r text rest before taken new SourceFailed h told = (let p = h.0 in
@@ -148,3 +166,5 @@ ends_short state bricks text rest before taken fault Malformed (inl q) h = absur
 ends_short state bricks text rest before taken fault Malformed (inr q) h = absurd (let z : Malformed ≡ OutOfMemory = q in cc)
 ends_short state bricks text rest before taken fault SourceFailed (inl q) h = absurd (let z : SourceFailed ≡ SinkFailed = q.0 in cc)
 ends_short state bricks text rest before taken fault SourceFailed (inr q) h = absurd (let z : SourceFailed ≡ OutOfMemory = q in cc)
+ends_short state bricks text rest before taken fault Limit (inl q) h = absurd (let z : Limit ≡ SinkFailed = q.0 in cc)
+ends_short state bricks text rest before taken fault Limit (inr q) h = absurd (let z : Limit ≡ OutOfMemory = q in cc)

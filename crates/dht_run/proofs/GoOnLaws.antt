@@ -12,14 +12,14 @@ use Rattle.dht_world.specs.declared.events.World.{World}
 use Rattle.dht_run.specs.LineReader.{Reader, input_of, HasNoNewline}
 use Rattle.dht_types.specs.Faults.{HasFault}
 use Rattle.dht_run.specs.Outside.{before_told, after_told, IsAtEnd}
-use Rattle.dht_run.specs.Replay.{IsMalformed, IsAfterFirst}
-use Rattle.dht_run.specs.SoFar.{Carried, SoFar, Reached, ReachedBad, Stopped, EndsSo, Wrote, WroteInPart}
+use Rattle.dht_run.specs.Replay.{IsMalformed, IsPastLimit, IsAfterFirst}
+use Rattle.dht_run.specs.SoFar.{Carried, SoFar, Reached, ReachedBad, ReachedLimit, Stopped, EndsSo, Wrote, WroteInPart, Spends}
 use Rattle.dht_run.specs.declared.ending.Ending.{Ending}
-use Rattle.dht_run.specs.declared.ending.Ending.TheVariants.{Done, Usage, Malformed, SourceFailed, SinkFailed, OutOfMemory}
+use Rattle.dht_run.specs.declared.ending.Ending.TheVariants.{Done, Usage, Malformed, SourceFailed, SinkFailed, OutOfMemory, Limit}
 use Rattle.dht_sched.specs.Schedule.{schedule_text, IsScheduled, IsOneLine}
 use Rattle.dht_run.specs.NextEvent.{CutsEvent, HasNoEvent}
 use Rattle.dht_run.specs.Replay.{schedule_of, MayCome}
-use Rattle.dht_run.specs.Written.{IsCause}
+use Rattle.dht_run.specs.Written.{IsCause, IsEventCause}
 use Rattle.dht_run.proofs.FinishLaws.{written_prefix, written_all}
 use Rattle.dht_run.proofs.ReplayLaws.{carried_more, cut_more, lines_text-append, malformed_after, misplaced}
 
@@ -32,7 +32,7 @@ so_far_more b c w v count old new e bl al taken told cuts later grows wrote text
     record {
       events = h.events ++ e ∷ [];
       lines = h.lines ++ a.0;
-      carried = carried_more b c w v count old new text bl al h.events h.lines a.0 e h.cut cuts later grows a.1.advances h.carried;
+      carried = carried_more b c w v count old new text bl al h.events h.lines a.0 e h.cut cuts later grows a.1.advances a.1.unspent h.carried;
       cut = cut_more old new bl al h.events e h.cut cuts;
       written = written_all before taken told (lines_text h.lines) (lines_text a.0) h.written a.1.written ∙ ap (after_told before) (sym (lines_text-append h.lines a.0));
     }
@@ -104,14 +104,15 @@ stopped_here b c w count r text bl before taken h = record {
 pub none_came : {B C : Type 0} (b : BrickGhosts B) (c : CallerGhosts C) (w : World B C) (count : ℕ) (old new : Reader) (text bl al before taken : Option (List ℕ)) (ending : Ending)
     → (ending ≡ Malformed → IfSome (input_of old bl) (HasNoEvent old.cut))
     → (ending ≡ SourceFailed → (input_of new al ≡ input_of old bl) × HasNoNewline new.pending)
-    → (ending ≡ Done → ⊥) → (ending ≡ Usage → ⊥) → (ending ≡ SinkFailed → ⊥)
+    → (ending ≡ Done → ⊥) → (ending ≡ Usage → ⊥) → (ending ≡ SinkFailed → ⊥) → (ending ≡ Limit → ⊥)
     → SoFar b c w count old text bl before taken → EndsSo b c w count new text al before taken ending
-none_came b c w count old new text bl al before taken Done bad failed nd nu nk h = absurd (nd refl)
-none_came b c w count old new text bl al before taken Usage bad failed nd nu nk h = absurd (nu refl)
-none_came b c w count old new text bl al before taken SinkFailed bad failed nd nu nk h = absurd (nk refl)
-none_came b c w count old new text bl al before taken Malformed bad failed nd nu nk h = no_event_reached b c w count old text bl before taken (bad refl) h
-none_came b c w count old new text bl al before taken OutOfMemory bad failed nd nu nk h = stopped_here b c w count old text bl before taken h
-none_came b c w count old new text bl al before taken SourceFailed bad failed nd nu nk h = (let f = failed refl in (
+none_came b c w count old new text bl al before taken Done bad failed nd nu nk nl h = absurd (nd refl)
+none_came b c w count old new text bl al before taken Usage bad failed nd nu nk nl h = absurd (nu refl)
+none_came b c w count old new text bl al before taken SinkFailed bad failed nd nu nk nl h = absurd (nk refl)
+none_came b c w count old new text bl al before taken Malformed bad failed nd nu nk nl h = no_event_reached b c w count old text bl before taken (bad refl) h
+none_came b c w count old new text bl al before taken Limit bad failed nd nu nk nl h = absurd (nl refl)
+none_came b c w count old new text bl al before taken OutOfMemory bad failed nd nu nk nl h = stopped_here b c w count old text bl before taken h
+none_came b c w count old new text bl al before taken SourceFailed bad failed nd nu nk nl h = (let f = failed refl in (
   record {
     events = h.events;
     lines = h.lines;
@@ -121,6 +122,29 @@ none_came b c w count old new text bl al before taken SourceFailed bad failed nd
   f.1,
 ))
 
+-- an event did not happen
+carried_still : {B C : Type 0} (b : BrickGhosts B) (c : CallerGhosts C) (w v : World B C) (count : ℕ) (text rest : Option (List ℕ)) (events : List Event) (lines : List Line) → IsAt b c v lines → Carried b c w count text rest events lines → Carried b c v count text rest events lines
+carried_still b c w v count text rest events lines at h =
+    let was = h.at.led.fit.counts.lines in
+    let now = at.led.fit.counts.lines in
+    let few = h.few in
+    record {
+      at = at;
+      follows = h.follows;
+      schedule = h.schedule;
+      counted = h.counted;
+      some = h.some;
+      limit = h.limit;
+      shorter = h.shorter;
+      few = omega arith;
+      limited = h.limited;
+      prefix = h.prefix;
+    }
+
+comes_next : (events : List Event) (e : Event) → 0 < length events → IsScheduled e → IsAfterFirst e → MayCome events e
+comes_next [] e some s a = absurd (omega arith)
+comes_next (x ∷ xs) e some s a = (s, a)
+
 -- the run was cut short while an event was carried out, or its lines were written
 pub stopped_in : {B C : Type 0} (b : BrickGhosts B) (c : CallerGhosts C) (w v : World B C) (count : ℕ) (old new : Reader) (e : Event) (text bl al before taken told : Option (List ℕ)) → CutsEvent old new bl al e → IsAfterFirst e → v.lines ≤ w.lines + 3
     → ((past : List Line) → IsAt b c w past → WroteInPart b c w v (count + 1) e past taken told)
@@ -129,23 +153,10 @@ stopped_in b c w v count old new e text bl al before taken told cuts later grows
   where
     by : WroteInPart b c w v (count + 1) e h.lines taken told → Stopped b c v text before told
     by (inl (at, same)) =
-        let was = h.carried.at.led.fit.same_size in
-        let now = at.led.fit.same_size in
-        let few = h.carried.few in
         stopped_here b c v count old text bl before told (record {
           events = h.events;
           lines = h.lines;
-          carried = record {
-            at = at;
-            follows = h.carried.follows;
-            schedule = h.carried.schedule;
-            counted = h.carried.counted;
-            some = h.carried.some;
-            limit = h.carried.limit;
-            shorter = h.carried.shorter;
-            few = omega arith;
-            prefix = h.carried.prefix;
-          };
+          carried = carried_still b c w v count text (input_of old bl) h.events h.lines at h.carried;
           cut = h.cut;
           written = same ∙ h.written;
         })
@@ -154,24 +165,52 @@ stopped_in b c w v count old new e text bl al before taken told cuts later grows
       lines = h.lines ++ lines;
       count = count + 1;
       input = input_of new al;
-      carried = carried_more b c w v count old new text bl al h.events h.lines lines e h.cut cuts later grows wrote.advances h.carried;
+      carried = carried_more b c w v count old new text bl al h.events h.lines lines e h.cut cuts later grows wrote.advances wrote.unspent h.carried;
       written = (
         length (lines_text h.lines) + n,
         written_prefix before taken told (lines_text h.lines) (lines_text lines) n h.written wrote.written ∙ ap (λ xs. after_told before (take (length (lines_text h.lines) + n) xs)) (sym (lines_text-append h.lines lines)),
       );
     }
 
-pub stopped_ends : {B C : Type 0} (b : BrickGhosts B) (c : CallerGhosts C) (w : World B C) (count : ℕ) (r : Reader) (text rest before taken : Option (List ℕ)) (fault : Type 0) (ending : Ending) → IsCause ending fault → Stopped b c w text before taken → EndsSo b c w count r text rest before taken ending
-stopped_ends b c w count r text rest before taken fault SinkFailed cause h = h
-stopped_ends b c w count r text rest before taken fault OutOfMemory cause h = h
-stopped_ends b c w count r text rest before taken fault Done (inl q) h = absurd (let z : Done ≡ SinkFailed = q.0 in cc)
-stopped_ends b c w count r text rest before taken fault Done (inr q) h = absurd (let z : Done ≡ OutOfMemory = q in cc)
-stopped_ends b c w count r text rest before taken fault Usage (inl q) h = absurd (let z : Usage ≡ SinkFailed = q.0 in cc)
-stopped_ends b c w count r text rest before taken fault Usage (inr q) h = absurd (let z : Usage ≡ OutOfMemory = q in cc)
-stopped_ends b c w count r text rest before taken fault Malformed (inl q) h = absurd (let z : Malformed ≡ SinkFailed = q.0 in cc)
-stopped_ends b c w count r text rest before taken fault Malformed (inr q) h = absurd (let z : Malformed ≡ OutOfMemory = q in cc)
-stopped_ends b c w count r text rest before taken fault SourceFailed (inl q) h = absurd (let z : SourceFailed ≡ SinkFailed = q.0 in cc)
-stopped_ends b c w count r text rest before taken fault SourceFailed (inr q) h = absurd (let z : SourceFailed ≡ OutOfMemory = q in cc)
+-- other endings have no cause of these
+no_cause : (ending : Ending) (fault : Type 0) → IsEventCause ending fault → (ending ≡ Limit → ⊥) → (ending ≡ SinkFailed → ⊥) → (ending ≡ OutOfMemory → ⊥) → ⊥
+no_cause ending fault (inl q) nl nk nm = nl q
+no_cause ending fault (inr (inl q)) nl nk nm = nk q.0
+no_cause ending fault (inr (inr q)) nl nk nm = nm q
+
+pub stopped_ends : {B C : Type 0} (b : BrickGhosts B) (c : CallerGhosts C) (w : World B C) (count : ℕ) (r : Reader) (text rest before taken : Option (List ℕ)) (fault : Type 0) (ending : Ending) → IsEventCause ending fault → Stopped b c w text before taken → (ending ≡ Limit → ReachedLimit b c w count text before taken) → EndsSo b c w count r text rest before taken ending
+stopped_ends b c w count r text rest before taken fault Limit cause h limit = limit refl
+stopped_ends b c w count r text rest before taken fault SinkFailed cause h limit = h
+stopped_ends b c w count r text rest before taken fault OutOfMemory cause h limit = h
+stopped_ends b c w count r text rest before taken fault Done cause h limit = absurd (no_cause Done fault cause (λ q. let z : Done ≡ Limit = q in cc) (λ q. let z : Done ≡ SinkFailed = q in cc) (λ q. let z : Done ≡ OutOfMemory = q in cc))
+stopped_ends b c w count r text rest before taken fault Usage cause h limit = absurd (no_cause Usage fault cause (λ q. let z : Usage ≡ Limit = q in cc) (λ q. let z : Usage ≡ SinkFailed = q in cc) (λ q. let z : Usage ≡ OutOfMemory = q in cc))
+stopped_ends b c w count r text rest before taken fault Malformed cause h limit = absurd (no_cause Malformed fault cause (λ q. let z : Malformed ≡ Limit = q in cc) (λ q. let z : Malformed ≡ SinkFailed = q in cc) (λ q. let z : Malformed ≡ OutOfMemory = q in cc))
+stopped_ends b c w count r text rest before taken fault SourceFailed cause h limit = absurd (no_cause SourceFailed fault cause (λ q. let z : SourceFailed ≡ Limit = q in cc) (λ q. let z : SourceFailed ≡ SinkFailed = q in cc) (λ q. let z : SourceFailed ≡ OutOfMemory = q in cc))
+
+-- a step came that is one too many
+pub limit_reached : {B C : Type 0} (b : BrickGhosts B) (c : CallerGhosts C) (w v : World B C) (count : ℕ) (old new : Reader) (e : Event) (text bl al before taken told : Option (List ℕ)) → CutsEvent old new bl al e → IsAfterFirst e → v.lines ≤ w.lines + 3
+    → ((past : List Line) → IsAt b c w past → Spends b c v e past taken told)
+    → SoFar b c w count old text bl before taken → ReachedLimit b c v count text before told
+limit_reached b c w v count old new e text bl al before taken told cuts later grows spends h =
+    let s = spends h.lines h.carried.at in
+    let counted = cuts.counted in
+    let within = cuts.within in
+    let cut = h.cut in
+    record {
+      events = h.events;
+      lines = h.lines;
+      input = input_of old bl;
+      carried = carried_still b c w v count text (input_of old bl) h.events h.lines s.at h.carried;
+      past_limit = record {
+        event = e;
+        after = input_of new al;
+        next = cuts.prefix;
+        may = comes_next h.events e (let n = h.carried.counted in let some = h.carried.some in omega arith) cuts.scheduled later;
+        spent = s.spent;
+        within = omega arith;
+      };
+      written = s.written ∙ h.written;
+    }
 
 -- a fault of a part of a run is one of the run
 pub fault_since : (a b c : ℕ) → a ≤ b → HasFault b c → HasFault a c

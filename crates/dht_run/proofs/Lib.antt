@@ -1,3 +1,5 @@
+pub mod BlockLaws
+pub mod CarryLaws
 pub mod CommandLaws
 pub mod EventLaws
 pub mod FinishLaws
@@ -5,6 +7,7 @@ pub mod GoOnLaws
 pub mod HeldBytes
 pub mod LineReaderLaws
 pub mod NewbornLaws
+pub mod PlaceLaws
 pub mod PrintLaws
 pub mod ReplayLaws
 pub mod StartLaws

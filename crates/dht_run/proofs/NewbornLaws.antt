@@ -5,7 +5,7 @@ use Rattle.dht_types.specs.Gfid.{root}
 use Rattle.dht_types.specs.Volume.{VolumeInfo, replay_names}
 use Rattle.dht_xattr.specs.Plan.{planned_value}
 use Rattle.dht_brick.specs.Bricks.{BrickState, IsNewborn}
-use Rattle.dht_world.specs.Bricks.{disk_of, journals_of, nothing, new_brick, AreNewborn, AreReady, ReadyAt}
+use Rattle.dht_world.specs.Bricks.{disk_of, journals_of, nothing, new_brick, none_down, AreNewborn, AreReady, ReadyAt}
 
 -- the brick of this number is new, has its planned range of the root, and fails only where it is armed
 pub record IsNew (v : VolumeInfo) (b : ℕ) (s : BrickState) : Type 0 where
@@ -44,15 +44,15 @@ newborn_all state v bricks h = record {
   journals = nothing_served state v 0 bricks h;
 }
 
-ready_from : {B : Type 0} (state : B → BrickState) (v : VolumeInfo) (n : ℕ) (bricks : List B) → AreNew state v n bricks → (i : ℕ) → ReadyAt state v (n + i) (slice_get bricks i)
+ready_from : {B : Type 0} (state : B → BrickState) (v : VolumeInfo) (n : ℕ) (bricks : List B) → AreNew state v n bricks → (i : ℕ) → ReadyAt state v true (n + i) (slice_get bricks i)
 ready_from state v n [] h i = tt
 ready_from state v n (x ∷ xs) h zero =
     let new = h.0.newborn in
     record { number = new.number ∙ (let z : n ≡ n + 0 = omega arith in z); up = new.up; unarmed = new.unarmed; faultless = h.0.faultless; volume = new.volume }
-ready_from state v n (x ∷ xs) h (suc i) = subst (λ (m : ℕ). ReadyAt state v m (slice_get xs i)) (let z : suc n + i ≡ n + suc i = omega arith in z) (ready_from state v (suc n) xs h.1 i)
+ready_from state v n (x ∷ xs) h (suc i) = subst (λ (m : ℕ). ReadyAt state v true m (slice_get xs i)) (let z : suc n + i ≡ n + suc i = omega arith in z) (ready_from state v (suc n) xs h.1 i)
 
 -- new bricks that know the names of a replay's bricks
-pub ready_all : {B : Type 0} (state : B → BrickState) (v : VolumeInfo) (bricks : List B) → v.names ≡ replay_names (length bricks) → AreNew state v 0 bricks → AreReady state v.weights v.run bricks
+pub ready_all : {B : Type 0} (state : B → BrickState) (v : VolumeInfo) (bricks : List B) → v.names ≡ replay_names (length bricks) → AreNew state v 0 bricks → AreReady state v.weights v.run none_down bricks
 ready_all state v bricks e h b =
-    subst (λ (names : List (List ℕ)). ReadyAt state (record v { names = names }) b (slice_get bricks b)) e
-    (subst (λ (m : ℕ). ReadyAt state v m (slice_get bricks b)) (let z : 0 + b ≡ b = omega arith in z) (ready_from state v 0 bricks h b))
+    subst (λ (names : List (List ℕ)). ReadyAt state (record v { names = names }) true b (slice_get bricks b)) e
+    (subst (λ (m : ℕ). ReadyAt state v true m (slice_get bricks b)) (let z : 0 + b ≡ b = omega arith in z) (ready_from state v 0 bricks h b))

@@ -1,21 +1,28 @@
 -- One more event of a schedule, and the lines that it gave.
 use Rattle.std.proofs.Common.{◌≡◌, ◌+◌, ◌≤◌, ◌<◌, ℕ, List, [], ◌∷◌, ◌++◌, Bool, true, false, suc, refl, sym, ap, ◌∙◌, subst, inl, inr, length, arith, append_assoc, length-append}
-use Rattle.std.specs.Prelude.{Option, Some, None, IfSome, MatchBool, Contains}
+use Rattle.std.specs.Prelude.{Option, Some, None, IfSome, MatchBool, Contains, slice_get}
+use Rattle.std.proofs.lemmas.Option.{slice_get_cases}
 use Rattle.std.specs.List.{flat_map}
 use Rattle.dht_types.specs.Cost.{cost}
-use Rattle.dht_types.specs.History.{History, PendingCall, with_lines, history_of, start}
+use Rattle.dht_types.specs.History.{History, PendingCall, IsUndisturbed, with_lines, history_of, start}
 use Rattle.dht_types.proofs.HistoryLaws.{lines_append}
 use Rattle.dht_types.specs.declared.events.Event.{Event}
-use Rattle.dht_types.specs.declared.events.Event.TheVariants.{Volume, Call, Step}
+use Rattle.dht_types.specs.declared.events.Event.TheVariants.{Volume, Call, Step, Down, Up, Die}
 use Rattle.dht_types.specs.declared.lines.Line.{Line}
 use Rattle.dht_sched.specs.Schedule.{schedule_text, IsScheduled, IsOneLine}
-use Rattle.dht_section.proofs.EarlyLaws.{nat_cases}
+use Rattle.dht_section.specs.Claims.{Claim}
+use Rattle.dht_section.specs.Disk.{Disk}
+use Rattle.dht_types.specs.declared.identifiers.CallNo.{CallNo}
 use Rattle.dht_invariant.proofs.StandsLaws.{stands_of, placed_of}
 use Rattle.dht_sched.specs.Transcript.{line_text, lines_text}
 use Rattle.dht_world.specs.Bricks.{disk_of, journals_of}
-use Rattle.dht_world.specs.Following.{ComesFrom, Block}
-use Rattle.dht_world.specs.World.{Works, CanHappen}
-use Rattle.dht_world.specs.Places.{IsAt, Advances}
+use Rattle.dht_world.specs.Clients.{claims_of, ClientFits, Works}
+use Rattle.dht_world.specs.Following.{ComesFrom, Block, IsSpent, step_limit}
+use Rattle.dht_world.specs.World.{CanHappen}
+use Rattle.dht_world.specs.Places.{IsAt, Advances, counts_of}
+use Rattle.dht_world.specs.declared.places.Place.{Place}
+use Rattle.dht_world.specs.declared.places.Place.TheVariants.{Living, Dead}
+use Rattle.dht_world.proofs.ClientLaws.{holders_call}
 use Rattle.dht_brick.specs.declared.brick.Brick.{Ghosts as BrickGhosts}
 use Rattle.dht_section.specs.declared.caller.Caller.{Ghosts as CallerGhosts}
 use Rattle.dht_world.specs.declared.events.World.{World}
@@ -25,6 +32,7 @@ use Rattle.dht_run.proofs.Told.{before_told-before_told}
 use Rattle.dht_run.specs.NextEvent.{CutsEvent, HasNoEvent}
 use Rattle.dht_run.specs.Replay.{schedule_of, IsSchedule, AreAfterFirst, IsAfterFirst, MayCome, IsMalformed, IsTranscript}
 use Rattle.dht_run.specs.SoFar.{Carried}
+use Rattle.dht_run.proofs.BlockLaws.{limited_more, no_others}
 
 -- one more event at the end
 pub schedule_more : (es : List Event) (e : Event) → schedule_of (es ++ e ∷ []) ≡ schedule_of es ++ (schedule_text e ++ 10 ∷ [])
@@ -67,9 +75,12 @@ lines_text-append xs ys = flat_more xs ys
 -- an event that is scheduled and no volume can happen
 pub can_happen : (e : Event) → IsScheduled e → IsAfterFirst e → CanHappen e
 can_happen (Volume w) s a = a
-can_happen (Call c (Rattle.dht_types.specs.declared.calls.Call.TheVariants.Lookup d n)) s a = (s.0, s.1.0)
-can_happen (Call c (Rattle.dht_types.specs.declared.calls.Call.TheVariants.Create d n)) s a = (s.0, s.1.0)
-can_happen (Step c) s a = s
+can_happen (Call c (Rattle.dht_types.specs.declared.calls.Call.TheVariants.Lookup d n)) s a = s.1.0
+can_happen (Call c (Rattle.dht_types.specs.declared.calls.Call.TheVariants.Create d n)) s a = s.1.0
+can_happen (Step c) s a = tt
+can_happen (Down b) s a = tt
+can_happen (Up b) s a = tt
+can_happen (Die c) s a = tt
 
 -- nothing that may come next comes
 pub malformed_after : (events : List Event) (cut : ℕ) (input : List ℕ) → 0 < length events → cut ≡ length (schedule_of events) → HasNoEvent cut input → IsMalformed events input
@@ -111,34 +122,52 @@ misplaced events e input (Some more) one s not only eq = subst (λ (o : Option (
     may_scheduled [] o h = h.0
     may_scheduled (x ∷ xs) o h = h.0
 
+-- a call that nobody disturbed has requests left
+answers_by : {C : Type 0} (c : CallerGhosts C) → ((x : C) → c.is_busy x ≡ true → 0 < (c.stage x).variant) → (d : Disk) (s : History) (claims : ℕ → Claim) (i : ℕ) (x : C) (n : CallNo) (busy : Bool) → c.is_busy x ≡ busy → MatchBool busy (Works c d s claims i x n) (s.pending i ≡ None) → (r : PendingCall) → s.pending i ≡ Some r → IsUndisturbed s r → r.steps < cost (length s.weights) r.call
+answers_by c goes_on d s claims i x n true busy h r e alone =
+    let z : Some h.mine ≡ Some r = sym h.runs ∙ e in
+    let same : h.mine ≡ r = cc in
+    let some = goes_on x busy in
+    let l = h.in_time (subst (IsUndisturbed s) (sym same) alone) in
+    subst (λ (o : PendingCall). o.steps < cost (length s.weights) o.call) same (omega arith)
+answers_by c goes_on d s claims i x n false idle h r e alone = absurd (let z : Some r ≡ None = sym e ∙ h in cc)
+
+answers_at : {C : Type 0} (c : CallerGhosts C) → ((x : C) → c.is_busy x ≡ true → 0 < (c.stage x).variant) → (d : Disk) (s : History) (claims : ℕ → Claim) (i : ℕ) (place : Option (Place C)) → ClientFits c d s claims i place → (place ≡ None → s.pending i ≡ None) → (r : PendingCall) → s.pending i ≡ Some r → IsUndisturbed s r → r.steps < cost (length s.weights) r.call
+answers_at c goes_on d s claims i None h idle r e alone = absurd (let z : Some r ≡ None = sym e ∙ idle refl in cc)
+answers_at c goes_on d s claims i (Some Dead) h idle r e alone = absurd (let z : Some r ≡ None = sym e ∙ h.1 in cc)
+answers_at c goes_on d s claims i (Some (Living x n)) h idle r e alone = answers_by c goes_on d s claims i x n (c.is_busy x) refl h.2 r e alone
+
+past_end : {A : Type 0} (xs : List A) (i : ℕ) → slice_get xs i ≡ None → length xs ≤ i
+past_end xs i e = elim (slice_get_cases xs i).1 [
+  | inl h ↦ absurd (let z : Some h.0 ≡ None = sym h.2 ∙ e in cc)
+  | inr h ↦ h.0
+]
+
 -- the transcript so far is one
-pub transcript_of : {B C : Type 0} (b : BrickGhosts B) (c : CallerGhosts C) → ((d : C) → c.is_busy d ≡ true → 0 < c.variant d) → (w : World B C) (events : List Event) (lines : List Line) → IsAt b c w lines → ComesFrom start 1 events lines → IsTranscript events lines (disk_of b.state w.bricks.items) (journals_of b.state w.bricks.items)
-transcript_of b c goes_on w events lines at comes = record {
-  legal = at.led.legal;
-  follows = comes;
-  logged = at.led.fit.logged;
-  stands = λ some. stands_of (disk_of b.state w.bricks.items) (history_of lines) at.led.fit.kept at.led.fit.early;
-  placed = λ e f h. placed_of (disk_of b.state w.bricks.items) (history_of lines) e f at.led.fit.kept at.led.fit.early h;
-  in_time = at.led.in_time;
-  answers = λ i r e. elim (nat_cases i 0) [
-    | inl q ↦ by (c.is_busy w.client) refl at.led.fit.own r (ap (history_of lines).pending (sym q) ∙ e)
-    | inr ne ↦ absurd (let z : Some r ≡ None = sym e ∙ at.led.fit.alone i ne in cc)
-  ];
-  counted = at.led.fit.kept.counted;
-}
-  where
-    by : (busy : Bool) → c.is_busy w.client ≡ busy → MatchBool busy (Works c (disk_of b.state w.bricks.items) (history_of lines) w.client) ((history_of lines).pending 0 ≡ None) → (r : PendingCall) → (history_of lines).pending 0 ≡ Some r → r.steps < cost (length (history_of lines).weights) r.call
-    by true busy h r e =
-        let z : Some h.mine ≡ Some r = sym h.runs ∙ e in
-        let same : h.mine ≡ r = cc in
-        let some = goes_on w.client busy in
-        let l = h.in_time in
-        subst (λ (o : PendingCall). o.steps < cost (length (history_of lines).weights) o.call) same (omega arith)
-    by false idle h r e = absurd (let z : Some r ≡ None = sym e ∙ h in cc)
+pub transcript_of : {B C : Type 0} (b : BrickGhosts B) (c : CallerGhosts C) → ((x : C) → c.is_busy x ≡ true → 0 < (c.stage x).variant) → (w : World B C) (events : List Event) (lines : List Line) → IsAt b c w lines → ComesFrom start 1 events lines → (history_of lines).requests ≤ step_limit → IsTranscript events lines (disk_of b.state w.bricks.items) (journals_of b.state w.bricks.items)
+transcript_of b c goes_on w events lines at comes limited =
+    let s = history_of lines in
+    let d = disk_of b.state w.bricks.items in
+    let fit = at.led.fit in
+    let claims = claims_of c w.clients.items in
+    let many = fit.many in
+    record {
+      legal = at.led.legal;
+      follows = comes;
+      logged = fit.logged;
+      stands = λ some. stands_of d s claims fit.kept fit.early;
+      placed = λ e f h. placed_of d s claims e f fit.kept fit.early h;
+      in_time = at.led.in_time;
+      answers = λ i r e alone. answers_at c goes_on d s claims i (slice_get w.clients.items i) (fit.each i)
+          (λ none. no_others events lines comes i (let past = past_end w.clients.items i none in omega arith)) r e alone;
+      held = holders_call c d (journals_of b.state w.bricks.items) w.clients.items w.weights (counts_of w) s fit;
+      limited = limited;
+      counted = fit.kept.counted;
+    }
 
 -- one event more was carried out
-pub carried_more : {B C : Type 0} (b : BrickGhosts B) (c : CallerGhosts C) (w v : World B C) (count : ℕ) (old new : Reader) (text before after : Option (List ℕ)) (events : List Event) (lines block : List Line) (e : Event) → old.cut ≡ length (schedule_of events) → CutsEvent old new before after e → IsAfterFirst e → v.lines ≤ w.lines + 3 → Advances b c w v (count + 1) e lines block → Carried b c w count text (input_of old before) events lines → Carried b c v (count + 1) text (input_of new after) (events ++ e ∷ []) (lines ++ block)
-carried_more b c w v count old new text before after events lines block e cut cuts later grows a h =
+pub carried_more : {B C : Type 0} (b : BrickGhosts B) (c : CallerGhosts C) (w v : World B C) (count : ℕ) (old new : Reader) (text before after : Option (List ℕ)) (events : List Event) (lines block : List Line) (e : Event) → old.cut ≡ length (schedule_of events) → CutsEvent old new before after e → IsAfterFirst e → v.lines ≤ w.lines + 3 → Advances b c w v (count + 1) e lines block → ¬ IsSpent (history_of lines) e → Carried b c w count text (input_of old before) events lines → Carried b c v (count + 1) text (input_of new after) (events ++ e ∷ []) (lines ++ block)
+carried_more b c w v count old new text before after events lines block e cut cuts later grows a unspent h =
     let n = h.counted in
     let some = h.some in
     let shorter = h.shorter in
@@ -155,6 +184,7 @@ carried_more b c w v count old new text before after events lines block e cut cu
       limit = omega arith;
       shorter = omega arith;
       few = omega arith;
+      limited = limited_more lines block (count + 1) e a.block unspent h.limited;
       prefix = h.prefix ∙ (ap (before_told (schedule_of events)) cuts.prefix ∙ (before_told-before_told (schedule_of events) (schedule_text e ++ 10 ∷ []) (input_of new after) ∙ ap (λ xs. before_told xs (input_of new after)) (sym (schedule_more events e))));
     }
 

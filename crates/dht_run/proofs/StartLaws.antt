@@ -14,7 +14,7 @@ use Rattle.dht_run.specs.Outside.{before_told, after_told}
 use Rattle.dht_run.specs.Replay.{Replays, StopsAtLine, StopsAtSource, IsCutShort, EndsAs, IsMalformed}
 use Rattle.dht_run.specs.SoFar.{Carried, SoFar, Stopped}
 use Rattle.dht_run.specs.declared.ending.Ending.{Ending}
-use Rattle.dht_run.specs.declared.ending.Ending.TheVariants.{Done, Usage, Malformed, SourceFailed, SinkFailed, OutOfMemory}
+use Rattle.dht_run.specs.declared.ending.Ending.TheVariants.{Done, Usage, Malformed, SourceFailed, SinkFailed, OutOfMemory, Limit}
 use Rattle.dht_types.specs.declared.events.Event.TheVariants.{Volume as VolumeEvent}
 use Rattle.dht_types.specs.declared.lines.Line.TheVariants.{Volume as VolumeLine}
 use Rattle.dht_sched.specs.Schedule.{schedule_text}
@@ -38,7 +38,9 @@ no_transcript state = record {
   stands = λ some. absurd (some refl);
   placed = λ e f h. absurd cc;
   in_time = tt;
-  answers = λ c r e. absurd cc;
+  answers = λ c r e alone. absurd cc;
+  held = λ b key c m l. absurd (omega arith);
+  limited = omega arith;
   counted = refl;
 }
 
@@ -48,7 +50,7 @@ nothing_replayed {B = B} state bricks text rest none same = record {
   schedule = tt;
   limit = omega arith;
   transcript = subst (λ (bs : List B). IsTranscript [] [] (disk_of state bs) (journals_of state bs)) (sym none) (no_transcript state);
-  ready = subst (λ (bs : List B). AreReady state (history_of []).weights (history_of []).run bs) (sym none) (λ b. tt);
+  ready = subst (λ (bs : List B). AreReady state (history_of []).weights (history_of []).run (history_of []).down bs) (sym none) (λ b. tt);
   prefix = sym same ∙ sym (told_nothing rest);
 }
 
@@ -88,7 +90,7 @@ first_short state bricks old text before taken none held bad told = record {
   rest = text;
   last = malformed_text 1;
   replays = nothing_replayed state bricks text text none refl;
-  follows = inr (inr (bad_text old text held bad, refl));
+  follows = inr (inr (inl (bad_text old text held bad, refl)));
   written = told;
 }
 
@@ -107,14 +109,15 @@ first_failed state bricks old new text rest before none held same no_line = reco
 -- why the volume's line did not come
 pub no_first : {B : Type 0} (state : B → BrickState) (bricks : List B) (old new : Reader) (text rest before : Option (List ℕ)) (ending : Ending) → bricks ≡ [] → old.pending ≡ []
     → (ending ≡ SourceFailed → (input_of new rest ≡ input_of old text) × HasNoNewline new.pending)
-    → (ending ≡ Malformed → ⊥) → (ending ≡ Done → ⊥) → (ending ≡ Usage → ⊥) → (ending ≡ SinkFailed → ⊥)
+    → (ending ≡ Malformed → ⊥) → (ending ≡ Done → ⊥) → (ending ≡ Usage → ⊥) → (ending ≡ SinkFailed → ⊥) → (ending ≡ Limit → ⊥)
     → EndsAs state bricks text rest before before ending
-no_first state bricks old new text rest before Done none held failed nm nd nu nk = absurd (nd refl)
-no_first state bricks old new text rest before Usage none held failed nm nd nu nk = absurd (nu refl)
-no_first state bricks old new text rest before SinkFailed none held failed nm nd nu nk = absurd (nk refl)
-no_first state bricks old new text rest before Malformed none held failed nm nd nu nk = absurd (nm refl)
-no_first state bricks old new text rest before OutOfMemory none held failed nm nd nu nk = nothing_done state bricks text before none
-no_first state bricks old new text rest before SourceFailed none held failed nm nd nu nk = (let f = failed refl in first_failed state bricks old new text rest before none held f.0 f.1)
+no_first state bricks old new text rest before Done none held failed nm nd nu nk nl = absurd (nd refl)
+no_first state bricks old new text rest before Usage none held failed nm nd nu nk nl = absurd (nu refl)
+no_first state bricks old new text rest before SinkFailed none held failed nm nd nu nk nl = absurd (nk refl)
+no_first state bricks old new text rest before Malformed none held failed nm nd nu nk nl = absurd (nm refl)
+no_first state bricks old new text rest before Limit none held failed nm nd nu nk nl = absurd (nl refl)
+no_first state bricks old new text rest before OutOfMemory none held failed nm nd nu nk nl = nothing_done state bricks text before none
+no_first state bricks old new text rest before SourceFailed none held failed nm nd nu nk nl = (let f = failed refl in first_failed state bricks old new text rest before none held f.0 f.1)
 
 -- the volume's line was carried out
 first_carried : {B C : Type 0} (b : BrickGhosts B) (c : CallerGhosts C) (w : World B C) (new : Reader) (text rest : Option (List ℕ)) (weights : List ℕ) → CutsVolume new text rest weights → w.lines ≡ 1 → IsAt b c w (VolumeLine weights ∷ []) → Carried b c w 1 text (input_of new rest) (VolumeEvent weights ∷ []) (VolumeLine weights ∷ [])
@@ -133,6 +136,7 @@ first_carried b c w new text rest weights first one at =
       limit = omega arith;
       shorter = omega arith;
       few = omega arith;
+      limited = omega arith;
       prefix = sym (ap (λ xs. before_told xs text) first.none_held ∙ told_nothing text) ∙ cuts.prefix;
     }
 

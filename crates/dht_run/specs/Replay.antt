@@ -4,9 +4,9 @@ use Rattle.dht_types.specs.Cost.{cost}
 use Rattle.dht_types.specs.Gfid.{Entry}
 use Rattle.dht_types.specs.Tree.{IsFile}
 use Rattle.dht_types.specs.declared.identifiers.Gfid.{Gfid}
-use Rattle.dht_types.specs.History.{PendingCall, Legal, history_of, start}
+use Rattle.dht_types.specs.History.{PendingCall, IsUndisturbed, Legal, history_of, start}
 use Rattle.dht_types.specs.declared.events.Event.{Event}
-use Rattle.dht_types.specs.declared.events.Event.TheVariants.{Volume, Call, Step}
+use Rattle.dht_types.specs.declared.events.Event.TheVariants.{Volume, Call, Step, Down, Up, Die}
 use Rattle.dht_types.specs.declared.lines.Line.{Line}
 use Rattle.dht_types.specs.declared.lines.DumpLine.{DumpLine}
 use Rattle.dht_types.specs.declared.lines.DumpLine.TheVariants.{End}
@@ -16,14 +16,15 @@ use Rattle.dht_brick.specs.declared.journal.JournalEntry.{JournalEntry}
 use Rattle.dht_section.specs.Disk.{Disk}
 use Rattle.dht_section.specs.Truth.{Stands, Placed}
 use Rattle.dht_sched.specs.Schedule.{schedule_text, IsScheduled}
-use Rattle.dht_sched.specs.Transcript.{lines_text, dump_lines_text, malformed_text}
+use Rattle.dht_sched.specs.Transcript.{lines_text, dump_lines_text, malformed_text, limit_text}
 use Rattle.dht_world.specs.Bricks.{disk_of, journals_of, Logged, AreReady}
-use Rattle.dht_world.specs.Following.{ComesFrom, InTimeFrom}
+use Rattle.dht_world.specs.Following.{ComesFrom, InTimeFrom, IsSpent, step_limit}
+use Rattle.dht_world.specs.World.{HoldersCall}
 use Rattle.dht_run.specs.LineReader.{HasNoNewline}
 use Rattle.dht_run.specs.Outside.{before_told, after_told, IsAtEnd}
 use Rattle.dht_run.specs.Written.{TakesPrefix}
 use Rattle.dht_run.specs.declared.ending.Ending.{Ending}
-use Rattle.dht_run.specs.declared.ending.Ending.TheVariants.{Done, Usage, Malformed, SourceFailed, SinkFailed, OutOfMemory}
+use Rattle.dht_run.specs.declared.ending.Ending.TheVariants.{Done, Usage, Malformed, SourceFailed, SinkFailed, OutOfMemory, Limit}
 use Rattle.dht_run.specs.declared.line_reader.TheConstants.{INPUT_LIMIT}
 
 -- the text of events, a line each
@@ -36,11 +37,17 @@ abbrev pub IsAfterFirst : Event → Type 0
 IsAfterFirst (Volume w) = ⊥
 IsAfterFirst (Call c call) = Unit {0}
 IsAfterFirst (Step c) = Unit {0}
+IsAfterFirst (Down b) = Unit {0}
+IsAfterFirst (Up b) = Unit {0}
+IsAfterFirst (Die c) = Unit {0}
 
 abbrev pub IsFirst : Event → Type 0
 IsFirst (Volume w) = Unit {0}
 IsFirst (Call c call) = ⊥
 IsFirst (Step c) = ⊥
+IsFirst (Down b) = ⊥
+IsFirst (Up b) = ⊥
+IsFirst (Die c) = ⊥
 
 -- the event has a line, and may come after these
 abbrev pub MayCome : List Event → Event → Type 0
@@ -69,7 +76,16 @@ pub record IsMalformed (events : List Event) (rest : List ℕ) : Type 0 where
   pub no_end : rest ≡ [] → events ≡ []
   pub no_line : (e : Event) (more : List ℕ) → MayCome events e → rest ≡ schedule_text e ++ 10 ∷ more → length (schedule_of events) + length (schedule_text e) + 1 ≤ INPUT_LIMIT → ⊥
 
--- the lines are a transcript of the events, over bricks that contain and served this in the end: they are legal, come from the events one by one, and agree with the bricks' journals; the bricks stand for the lines' tree, each file of which stands once, on its holder; and each call answers in time
+-- after these events, which gave these lines, what is left of the text begins with the line of a step that is not refused, and the run has had all its steps
+pub record IsPastLimit (events : List Event) (lines : List Line) (rest : Option (List ℕ)) : Type 0 where
+  pub event : Event
+  pub after : Option (List ℕ)
+  pub next : rest ≡ before_told (schedule_text event ++ 10 ∷ []) after
+  pub may : MayCome events event
+  pub spent : IsSpent (history_of lines) event
+  pub within : length (schedule_of events) + length (schedule_text event) + 1 ≤ INPUT_LIMIT
+
+-- the lines are a transcript of the events, over bricks that contain and served this in the end: they are legal, come from the events one by one, and agree with the bricks' journals; no more of them tell of requests than a run may have; the bricks stand for the lines' tree, each file of which stands once, on its holder; each call that nobody disturbs answers in time; and each lock is held by a client that has a pending call
 pub record IsTranscript (events : List Event) (lines : List Line) (d : Disk) (js : ℕ → List JournalEntry) : Type 0 where
   pub legal : Legal lines
   pub follows : ComesFrom start 1 events lines
@@ -77,7 +93,9 @@ pub record IsTranscript (events : List Event) (lines : List Line) (d : Disk) (js
   pub stands : events ≢ [] → Stands d (history_of lines).tree
   pub placed : (e : Entry) (f : Gfid) → (history_of lines).tree.names e ≡ Some (IsFile f) → Placed d e
   pub in_time : InTimeFrom start lines
-  pub answers : (c : ℕ) (r : PendingCall) → (history_of lines).pending c ≡ Some r → r.steps < cost (length (history_of lines).weights) r.call
+  pub answers : (c : ℕ) (r : PendingCall) → (history_of lines).pending c ≡ Some r → IsUndisturbed (history_of lines) r → r.steps < cost (length (history_of lines).weights) r.call
+  pub held : HoldersCall d (history_of lines)
+  pub limited : (history_of lines).requests ≤ step_limit
   pub counted : d.count ≡ length (history_of lines).weights
 
 -- the dump of a brick of this number
@@ -93,12 +111,12 @@ dump_from state n (b ∷ bricks) = brick_dump n (state b) ++ dump_from state (n 
 abbrev pub dump_all : {B : Type 0} → (B → BrickState) → List B → List DumpLine
 dump_all state bricks = dump_from state 0 bricks ++ End ∷ []
 
--- what every run has done: a schedule's events were carried out, which are a prefix of the text; the lines are their transcript, over these bricks; each brick is up; what is left of the text is this
+-- what every run has done: a schedule's events were carried out, which are a prefix of the text; the lines are their transcript, over these bricks; each brick is up, unless the lines say that it is down; what is left of the text is this
 pub record Replays {B : Type 0} (state : B → BrickState) (bricks : List B) (text rest : Option (List ℕ)) (events : List Event) (lines : List Line) : Type 0 where
   pub schedule : IsSchedule events
   pub limit : length (schedule_of events) ≤ INPUT_LIMIT
   pub transcript : IsTranscript events lines (disk_of state bricks) (journals_of state bricks)
-  pub ready : AreReady state (history_of lines).weights (history_of lines).run bricks
+  pub ready : AreReady state (history_of lines).weights (history_of lines).run (history_of lines).down bricks
   pub prefix : text ≡ before_told (schedule_of events) rest
 
 -- the text was carried out whole, and the transcript and the dump were written
@@ -119,6 +137,15 @@ pub record StopsAtLine {B : Type 0} (state : B → BrickState) (bricks : List B)
   pub malformed : IfSome rest (IsMalformed events)
   pub written : taken ≡ after_told before (lines_text lines ++ malformed_text (length events + 1))
 
+-- a step came that is one too many; all before it was carried out, and written with a last line that says so
+pub record StopsAtLimit {B : Type 0} (state : B → BrickState) (bricks : List B) (text before taken : Option (List ℕ)) : Type 0 where
+  pub events : List Event
+  pub lines : List Line
+  pub rest : Option (List ℕ)
+  pub replays : Replays state bricks text rest events lines
+  pub past_limit : IsPastLimit events lines rest
+  pub written : taken ≡ after_told before (lines_text lines ++ limit_text)
+
 -- the source failed; the events are all whole lines that it gave, and their whole transcript was written
 pub record StopsAtSource {B : Type 0} (state : B → BrickState) (bricks : List B) (text left before taken : Option (List ℕ)) : Type 0 where
   pub events : List Event
@@ -128,18 +155,20 @@ pub record StopsAtSource {B : Type 0} (state : B → BrickState) (bricks : List 
   pub no_line : HasNoNewline pending
   pub written : taken ≡ after_told before (lines_text lines)
 
--- what stands behind the lines of the events before the n-th line at this ending: the dump, or the line of an invalid line
+-- what stands behind the lines of the events before the n-th line at this ending: the dump, or the line of an invalid line or of the limit
 abbrev pub last_text : {B : Type 0} → (B → BrickState) → List B → ℕ → Ending → List ℕ
 last_text state bricks n Done = dump_lines_text (dump_all state bricks)
 last_text state bricks n Malformed = malformed_text n
+last_text state bricks n Limit = limit_text
 last_text state bricks n ending = []
 
--- what may stand behind the lines of these events where this is left of the text: nothing; the dump, where nothing is left of it; or the line of an invalid line, where what is left is malformed
-abbrev pub MayFollow : {B : Type 0} → (B → BrickState) → List B → List Event → Option (List ℕ) → List ℕ → Type 0
-MayFollow state bricks events rest last =
+-- what may stand behind the lines of these events where this is left of the text: nothing; the dump, where nothing is left of it; the line of an invalid line, where what is left is malformed; or the line of the limit, where it begins with a step that is one too many
+abbrev pub MayFollow : {B : Type 0} → (B → BrickState) → List B → List Event → List Line → Option (List ℕ) → List ℕ → Type 0
+MayFollow state bricks events lines rest last =
     (last ≡ [])
     ⊎ ((events ≢ []) × IsAtEnd rest × (last ≡ last_text state bricks (length events + 1) Done))
     ⊎ (IfSome rest (IsMalformed events) × (last ≡ last_text state bricks (length events + 1) Malformed))
+    ⊎ (IsPastLimit events lines rest × (last ≡ last_text state bricks (length events + 1) Limit))
 
 -- the run was cut short; what was written is a prefix of the lines' text and of what may stand behind it
 pub record IsCutShort {B : Type 0} (state : B → BrickState) (bricks : List B) (text before taken : Option (List ℕ)) : Type 0 where
@@ -148,7 +177,7 @@ pub record IsCutShort {B : Type 0} (state : B → BrickState) (bricks : List B) 
   pub rest : Option (List ℕ)
   pub last : List ℕ
   pub replays : Replays state bricks text rest events lines
-  pub follows : MayFollow state bricks events rest last
+  pub follows : MayFollow state bricks events lines rest last
   pub written : TakesPrefix before (lines_text lines ++ last) taken
 
 -- how a replay ends: by its ending, what was carried out and what was written
@@ -158,4 +187,5 @@ EndsAs state bricks text left before taken Malformed = StopsAtLine state bricks 
 EndsAs state bricks text left before taken SourceFailed = StopsAtSource state bricks text left before taken
 EndsAs state bricks text left before taken SinkFailed = IsCutShort state bricks text before taken
 EndsAs state bricks text left before taken OutOfMemory = IsCutShort state bricks text before taken
+EndsAs state bricks text left before taken Limit = StopsAtLimit state bricks text before taken
 EndsAs state bricks text left before taken Usage = ⊥

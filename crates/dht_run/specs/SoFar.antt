@@ -1,10 +1,10 @@
 -- What a run keeps true while it carries out one event after another.
 use Rattle.std.specs.Prelude.{ℕ, ◌*◌, ◌≤◌, ◌<◌, ◌≡◌, ◌⊎◌, Option, IfSome, List, length, take}
-use Rattle.dht_types.specs.History.{start}
+use Rattle.dht_types.specs.History.{history_of, start}
 use Rattle.dht_types.specs.declared.events.Event.{Event}
 use Rattle.dht_types.specs.declared.lines.Line.{Line}
 use Rattle.dht_sched.specs.Transcript.{lines_text}
-use Rattle.dht_world.specs.Following.{ComesFrom}
+use Rattle.dht_world.specs.Following.{ComesFrom, IsSpent, step_limit}
 use Rattle.dht_world.specs.Places.{IsAt, Advances}
 use Rattle.dht_brick.specs.declared.brick.Brick.{Ghosts as BrickGhosts}
 use Rattle.dht_section.specs.declared.caller.Caller.{Ghosts as CallerGhosts}
@@ -12,9 +12,9 @@ use Rattle.dht_world.specs.declared.events.World.{World}
 use Rattle.dht_run.specs.LineReader.{Reader, input_of, HasNoNewline}
 use Rattle.dht_run.specs.Outside.{before_told, after_told, IsAtEnd}
 use Rattle.dht_run.specs.Written.{TakesPrefix}
-use Rattle.dht_run.specs.Replay.{schedule_of, IsSchedule, IsMalformed}
+use Rattle.dht_run.specs.Replay.{schedule_of, IsSchedule, IsMalformed, IsPastLimit}
 use Rattle.dht_run.specs.declared.ending.Ending.{Ending}
-use Rattle.dht_run.specs.declared.ending.Ending.TheVariants.{Done, Usage, Malformed, SourceFailed, SinkFailed, OutOfMemory}
+use Rattle.dht_run.specs.declared.ending.Ending.TheVariants.{Done, Usage, Malformed, SourceFailed, SinkFailed, OutOfMemory, Limit}
 use Rattle.dht_run.specs.declared.line_reader.TheConstants.{INPUT_LIMIT}
 
 -- these events were carried out, so many, and gave these lines; what is left of the text is this
@@ -27,6 +27,7 @@ pub record Carried {B C : Type 0} (b : BrickGhosts B) (c : CallerGhosts C) (w : 
   pub limit : length (schedule_of events) ≤ INPUT_LIMIT
   pub shorter : count ≤ length (schedule_of events)
   pub few : w.lines ≤ 3 * count
+  pub limited : (history_of lines).requests ≤ step_limit
   pub prefix : text ≡ before_told (schedule_of events) rest
 
 -- between two events
@@ -62,6 +63,15 @@ pub record ReachedBad {B C : Type 0} (b : BrickGhosts B) (c : CallerGhosts C) (w
   pub malformed : IfSome input (IsMalformed events)
   pub written : taken ≡ after_told before (lines_text lines)
 
+-- the same, and what comes next is a step that is one too many
+pub record ReachedLimit {B C : Type 0} (b : BrickGhosts B) (c : CallerGhosts C) (w : World B C) (count : ℕ) (text before taken : Option (List ℕ)) : Type 0 where
+  pub events : List Event
+  pub lines : List Line
+  pub input : Option (List ℕ)
+  pub carried : Carried b c w count text input events lines
+  pub past_limit : IsPastLimit events lines input
+  pub written : taken ≡ after_told before (lines_text lines)
+
 -- how the loop over the events ends
 abbrev pub EndsSo : {B C : Type 0} → BrickGhosts B → CallerGhosts C → World B C → ℕ → Reader → (text rest before taken : Option (List ℕ)) → Ending → Type 0
 EndsSo b c w count r text rest before taken Done = Reached b c w count text rest before taken × IsAtEnd rest
@@ -69,11 +79,13 @@ EndsSo b c w count r text rest before taken Malformed = ReachedBad b c w count t
 EndsSo b c w count r text rest before taken SourceFailed = Reached b c w count text (input_of r rest) before taken × HasNoNewline r.pending
 EndsSo b c w count r text rest before taken SinkFailed = Stopped b c w text before taken
 EndsSo b c w count r text rest before taken OutOfMemory = Stopped b c w text before taken
+EndsSo b c w count r text rest before taken Limit = ReachedLimit b c w count text before taken
 EndsSo b c w count r text rest before taken Usage = ⊥
 
--- an event was carried out, its lines were written, or a prefix of them
+-- an event was carried out, which the run still had steps for, its lines were written, or a prefix of them
 pub record Wrote {B C : Type 0} (b : BrickGhosts B) (c : CallerGhosts C) (old new : World B C) (n : ℕ) (event : Event) (past lines : List Line) (before taken : Option (List ℕ)) (text : List ℕ) : Type 0 where
   pub advances : Advances b c old new n event past lines
+  pub unspent : ¬ IsSpent (history_of past) event
   pub written : taken ≡ after_told before text
 
 -- an event was carried out, and a prefix of its lines' text was written; or memory ran out before it was carried out
@@ -81,3 +93,9 @@ abbrev pub WroteInPart : {B C : Type 0} → BrickGhosts B → CallerGhosts C →
 WroteInPart b c old new n event past before taken =
     (IsAt b c new past × (taken ≡ before))
     ⊎ ((lines : List Line) × ((m : ℕ) × Wrote b c old new n event past lines before taken (take m (lines_text lines))))
+
+-- an event did not happen, since the run has had all its steps
+pub record Spends {B C : Type 0} (b : BrickGhosts B) (c : CallerGhosts C) (new : World B C) (event : Event) (past : List Line) (before taken : Option (List ℕ)) : Type 0 where
+  pub at : IsAt b c new past
+  pub spent : IsSpent (history_of past) event
+  pub written : taken ≡ before

@@ -18,6 +18,8 @@ pub enum Ending {
     SinkFailed,
     /// Memory ran out.
     OutOfMemory,
+    /// The run has had all its steps.
+    Limit,
 }
 
 impl Ending {
@@ -32,6 +34,7 @@ impl Ending {
             Ending::SourceFailed => 4,
             Ending::SinkFailed => 5,
             Ending::OutOfMemory => 6,
+            Ending::Limit => 7,
         }
     }
 }

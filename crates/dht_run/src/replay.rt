@@ -8,8 +8,10 @@ ghost use Rattle.dht_types.specs.Faults.{HasFault};
 ghost use Rattle.dht_types.specs.Volume.{replay_names};
 ghost use Rattle.dht_membrick.specs.State.{mem_state};
 ghost use Rattle.dht_sched.specs.Schedule.{IsScheduledVolume};
-ghost use Rattle.dht_sched.specs.Transcript.{lines_text, dump_lines_text, malformed_text};
-ghost use Rattle.dht_world.specs.Bricks.{disk_of, journals_of, AreNewborn, AreReady};
+ghost use Rattle.dht_sched.specs.Transcript.{lines_text, dump_lines_text, malformed_text, limit_text};
+ghost use Rattle.dht_world.specs.Bricks.{disk_of, journals_of, none_down, AreNewborn, AreReady};
+ghost use Rattle.dht_world.specs.Clients.{AreNewClients};
+ghost use Rattle.dht_world.specs.Following.{IsSpent};
 ghost use Rattle.dht_world.specs.Places.{IsAt};
 ghost use Rattle.dht_world.specs.World.{CanHappen};
 ghost use Rattle.dht_run.specs.Outside.{after_told, IsAtEnd};
@@ -17,9 +19,9 @@ ghost use Rattle.dht_run.specs.LineReader.{Reader, input_of, HasNoNewline};
 ghost use Rattle.dht_run.specs.NextEvent.{CutsEvent, CutsVolume, HasNoEvent};
 ghost use Rattle.dht_run.specs.Replay.{IsAfterFirst, IsMalformed, EndsAs, dump_all, last_text};
 ghost use Rattle.dht_run.specs.declared.line_reader.TheConstants.{INPUT_LIMIT};
-ghost use Rattle.dht_run.specs.SoFar.{SoFar, EndsSo, Wrote, WroteInPart};
+ghost use Rattle.dht_run.specs.SoFar.{SoFar, EndsSo, Wrote, WroteInPart, Spends};
 ghost use Rattle.dht_run.specs.Writes.{Writes};
-ghost use Rattle.dht_run.specs.Written.{IsCause};
+ghost use Rattle.dht_run.specs.Written.{IsEventCause};
 
 use crate::ending::Ending;
 use crate::line_reader::{LineReader, Next};
@@ -28,14 +30,19 @@ use crate::source::Source;
 use dht_brick::brick::Brick;
 use dht_client::Client;
 use dht_membrick::MemBrick;
-use dht_sched::{LineFault, one_line, print_dump_line, print_line, print_malformed, read_line};
+use dht_sched::{
+    LineFault, one_line, print_dump_line, print_limit, print_line, print_malformed, read_line,
+};
 use dht_section::caller::Caller;
 use dht_types::events::Event;
-use dht_types::identifiers::{BrickNo, ClientNo};
+use dht_types::identifiers::{BrickNo, CallNo, ClientNo};
 use dht_types::lines::{DumpLine, Line};
 use dht_types::volumes::{Volume, Weights};
-use dht_world::World;
+use dht_world::{Place, Stop, World};
 use std::alloc::{AllocError, Global};
+
+/// How many clients a world has.
+const CLIENTS: u16 = 64;
 
 /// Appends the text of lines of a transcript.
 fn print_lines(lines: &[Line], text: &mut Vec<u8>) -> Result<(), AllocError>
@@ -127,7 +134,8 @@ fn next_event<S: Source>(
         → input_of reader.new (S.left source.new) ≡ input_of reader.old (S.left source.old) }
     ensures failed_held { result ≡ Err Ending.SourceFailed → HasNoNewline reader.new.pending }
     ensures no_other { (result ≢ Err Ending.Done)
-        × (result ≢ Err Ending.Usage) × (result ≢ Err Ending.SinkFailed) }
+        × (result ≢ Err Ending.Usage) × (result ≢ Err Ending.SinkFailed)
+        × (result ≢ Err Ending.Limit) }
     ensures faults { S.faults source.old ≤ S.faults source.new }
 {
     one_line();
@@ -144,7 +152,7 @@ fn next_event<S: Source>(
 }
 
 /// Carries out an event, that of this line of the schedule, and writes its lines.
-fn carry_out<B: Brick, C: Caller, K: Sink>(
+fn carry_out<B: Brick, C: Caller + Drop, K: Sink>(
     world: &mut World<B, C>,
     event: &Event,
     line: u64,
@@ -162,16 +170,21 @@ fn carry_out<B: Brick, C: Caller, K: Sink>(
         → IsAt B.Brick C.Caller world.old past
         → WroteInPart B.Brick C.Caller world.old world.new line
         event.now past (K.taken sink.old) (K.taken sink.new)) }
+    ensures limit { result ≡ Err Ending.Limit → (past : List ALine)
+        → IsAt B.Brick C.Caller world.old past
+        → Spends B.Brick C.Caller world.new event.now past
+        (K.taken sink.old) (K.taken sink.new) }
     ensures cause { IfErr result (λ e.
-        IsCause e (HasFault (K.faults sink.old) (K.faults sink.new))) }
+        IsEventCause e (HasFault (K.faults sink.old) (K.faults sink.new))) }
     ensures faults { K.faults sink.old ≤ K.faults sink.new }
     ensures grows { world.new.lines ≤ world.old.lines + 3 }
 {
     output.lines.clear();
-    if world.event(event, line, &mut output.lines).is_err() {
-        return Err(Ending::OutOfMemory);
+    match world.event(event, line, &mut output.lines) {
+        Ok(()) => output.write(sink),
+        Err(Stop::Limit) => Err(Ending::Limit),
+        Err(Stop::OutOfMemory) => Err(Ending::OutOfMemory),
     }
-    output.write(sink)
 }
 
 /// Whether an event is that of a volume line.
@@ -187,7 +200,7 @@ fn is_volume(event: &Event) -> bool
 
 /// Carries out the events that come, `count` of them so far, until the input ends or something stops
 /// the run.
-fn go_on<B: Brick, C: Caller, S: Source, K: Sink>(
+fn go_on<B: Brick, C: Caller + Drop, S: Source, K: Sink>(
     alloc: Global,
     world: &mut World<B, C>,
     count: &mut u64,
@@ -271,8 +284,19 @@ fn write_malformed<K: Sink>(alloc: Global, number: u64, sink: &mut K) -> Result<
     send(sink, &text)
 }
 
-/// Writes what stands behind the lines of `count` events: the dump at the end of the input, and the
-/// number of an invalid line.
+/// Writes that the run has had all its steps.
+fn write_limit<K: Sink>(alloc: Global, sink: &mut K) -> Result<(), Ending>
+    ensures { Writes K.Sink sink.old sink.new limit_text result }
+{
+    let mut text = Vec::new(alloc);
+    if print_limit(&mut text).is_err() {
+        return Err(Ending::OutOfMemory);
+    }
+    send(sink, &text)
+}
+
+/// Writes what stands behind the lines of `count` events: the dump at the end of the input, the
+/// number of an invalid line, and that the run has had all its steps.
 fn write_last<B: Brick, K: Sink>(
     alloc: Global,
     ending: Ending,
@@ -288,6 +312,7 @@ fn write_last<B: Brick, K: Sink>(
     match ending {
         Ending::Done => write_dump(alloc, bricks, sink),
         Ending::Malformed => write_malformed(alloc, count + 1, sink),
+        Ending::Limit => write_limit(alloc, sink),
         _ => Ok(()),
     }
 }
@@ -318,7 +343,7 @@ fn finish<B: Brick, C: Caller, K: Sink>(
 }
 
 /// Replays a schedule behind its first line, that of a volume with these weights.
-fn play<B: Brick, C: Caller, S: Source, K: Sink>(
+fn play<B: Brick, C: Caller + Drop, S: Source, K: Sink>(
     alloc: Global,
     weights: Weights,
     world: &mut World<B, C>,
@@ -354,7 +379,8 @@ fn new_bricks(alloc: Global, volume: &Volume) -> Result<Vec<MemBrick>, AllocErro
     ensures newborn { IfOk result (λ v.
         AreNewborn volume.now.weights (disk_of mem_state v.items) (journals_of mem_state v.items)) }
     ensures ready { volume.now.names ≡ replay_names (length volume.now.names)
-        → IfOk result (λ v. AreReady mem_state volume.now.weights volume.now.run v.items) }
+        → IfOk result (λ v.
+        AreReady mem_state volume.now.weights volume.now.run none_down v.items) }
 {
     let mut bricks = Vec::new(alloc);
     for number in 0..volume.bricks() {
@@ -370,7 +396,7 @@ fn bricks_of(alloc: Global, weights: &Weights) -> Result<Vec<MemBrick>, Ending>
     ensures count { IfOk result (λ v. vec_len v ≡ length weights.now) }
     ensures newborn { IfOk result (λ v.
         AreNewborn weights.now (disk_of mem_state v.items) (journals_of mem_state v.items)) }
-    ensures ready { IfOk result (λ v. AreReady mem_state weights.now 1 v.items) }
+    ensures ready { IfOk result (λ v. AreReady mem_state weights.now 1 none_down v.items) }
     ensures memory { OnErr result (result ≡ Err Ending.OutOfMemory) }
 {
     let Ok(volume) = Volume::replay(alloc, weights, 1) else {
@@ -380,6 +406,18 @@ fn bricks_of(alloc: Global, weights: &Weights) -> Result<Vec<MemBrick>, Ending>
         Ok(bricks) => Ok(bricks),
         Err(_) => Err(Ending::OutOfMemory),
     }
+}
+
+/// The clients of a new world, all idle: each has its place as its number.
+fn new_clients(alloc: Global) -> Result<Vec<Place<Client>>, AllocError>
+    ensures many { IfOk result (λ v. vec_len v ≡ 64) }
+    ensures idle { IfOk result (λ v. AreNewClients ⟦<Client as Caller>⟧ v.items) }
+{
+    let mut clients = Vec::new(alloc);
+    for number in 0..CLIENTS {
+        clients.push(Place::Living(Client::new(ClientNo(number)), CallNo(0)))?;
+    }
+    Ok(clients)
 }
 
 /// The weights of the volume line, the first of the schedule.
@@ -400,7 +438,8 @@ fn first_line<S: Source>(
         → input_of reader.new (S.left source.new) ≡ input_of reader.old (S.left source.old) }
     ensures failed_held { result ≡ Err Ending.SourceFailed → HasNoNewline reader.new.pending }
     ensures no_other { (result ≢ Err Ending.Done)
-        × (result ≢ Err Ending.Usage) × (result ≢ Err Ending.SinkFailed) }
+        × (result ≢ Err Ending.Usage) × (result ≢ Err Ending.SinkFailed)
+        × (result ≢ Err Ending.Limit) }
     ensures faults { S.faults source.old ≤ S.faults source.new }
 {
     match next_event(alloc, reader, source) {
@@ -437,7 +476,10 @@ fn replay_volume<S: Source, K: Sink>(
     let Ok(shown) = weights.copied(alloc) else {
         return Ending::OutOfMemory;
     };
-    let mut world = World::new(weights, made, Client::new(ClientNo(0)));
+    let Ok(clients) = new_clients(alloc) else {
+        return Ending::OutOfMemory;
+    };
+    let mut world = World::new(weights, made, clients);
     let ending = play(alloc, shown, &mut world, reader, source, sink);
     *bricks = world.into_bricks();
     ending

@@ -8,7 +8,7 @@ ghost use Rattle.dht_run.specs.Outside.{after_told};
 ghost use Rattle.dht_run.specs.Written.{TakesPrefix};
 ghost use Rattle.dht_run.specs.Commands.{hash_text, layout_text, IsPrinted};
 ghost use Rattle.dht_run.specs.Program.{IsReplay, IsHash, IsLayout, IsCommand, IsStatus};
-ghost use Rattle.dht_run.specs.Replay.{EndsAs, IsDone, StopsAtLine, StopsAtSource, IsCutShort, IsWhole};
+ghost use Rattle.dht_run.specs.Replay.{EndsAs, IsDone, StopsAtLine, StopsAtLimit, StopsAtSource, IsCutShort, IsWhole};
 ghost use Rattle.dht_run.specs.Status.{status_of};
 
 use crate::commands::{print_hashes, print_layout};
@@ -93,7 +93,7 @@ fn obey<S: Source, K: Sink>(
 ///
 /// Status 0: the source's text was carried out whole, or all was printed. 2: the words are no
 /// command. 3: an invalid line was reached. 4: the source failed. 5: the sink failed. 6: memory ran
-/// out.
+/// out. 7: the run had all its steps, 200,000, and one more came.
 pub fn run<S: Source, K: Sink>(
     alloc: Global,
     words: &[Word],
@@ -112,6 +112,9 @@ pub fn run<S: Source, K: Sink>(
         (K.taken sink.old) (K.taken sink.new) }
     ensures source_failed { IsReplay words.now → result ≡ 4
         → StopsAtSource mem_state shelf.new.mem.items (S.left source.old) (S.left source.new)
+        (K.taken sink.old) (K.taken sink.new) }
+    ensures limit { IsReplay words.now → result ≡ 7
+        → StopsAtLimit mem_state shelf.new.mem.items (S.left source.old)
         (K.taken sink.old) (K.taken sink.new) }
     ensures cut_short { IsReplay words.now → (result ≡ 5) ⊎ (result ≡ 6)
         → IsCutShort mem_state shelf.new.mem.items (S.left source.old)

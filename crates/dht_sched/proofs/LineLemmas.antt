@@ -11,7 +11,7 @@ use Rattle.dht_types.specs.Gfid.{root}
 use Rattle.dht_types.specs.declared.identifiers.Gfid.{Gfid}
 use Rattle.dht_types.specs.declared.calls.Call.TheVariants.{Lookup, Create}
 use Rattle.dht_types.specs.declared.events.Event.{Event}
-use Rattle.dht_types.specs.declared.events.Event.TheVariants.{Volume, Call as Called, Step}
+use Rattle.dht_types.specs.declared.events.Event.TheVariants.{Volume, Call as Called, Step, Down, Up, Die}
 use Rattle.dht_sched.specs.declared.fault.LineFault.{LineFault}
 use Rattle.dht_sched.specs.declared.fault.LineFault.TheVariants.{Malformed, OutOfMemory}
 use Rattle.dht_sched.specs.Reading.{ReadsUnless}
@@ -43,17 +43,20 @@ same_weights (x ∷ v) (y ∷ w) hv hw same =
 
 -- ---- the words of an event
 
-decimal_word : (n : ℕ) → n ≤ 1000 → IsWord (decimal n)
-decimal_word n light =
-    let digits = (decimal_is_IsNumeral n (omega arith)).0.1 in
+decimal_word : (n : ℕ) → n < 2 ^ 64 → IsWord (decimal n)
+decimal_word n small =
+    let digits = (decimal_is_IsNumeral n small).0.1 in
     list_all-from_AllPass (λ b. leb 33 b) (decimal n) (All-from_get_or (λ b. leb 33 b ≡ true) (decimal n) 0 (λ i lt. let digit = digit_at (decimal n) i digits lt in le-leb 33 _ (omega arith)))
 
 length-decimal : (n : ℕ) → n ≤ 1000 → length (decimal n) ≤ 4
 length-decimal n light = length-decimal-le 4 n (lit< tt) (omega arith) (omega arith)
 
+length-number : (n : ℕ) → n < 2 ^ 64 → length (decimal n) ≤ 20
+length-number n small = length-decimal-le 20 n (lit< tt) (omega arith) small
+
 weight_words : (w : List ℕ) → AllByRecursion IsLight w → AllByRecursion IsWord (map decimal w)
 weight_words [] light = tt
-weight_words (x ∷ w) light = (decimal_word x light.0, weight_words w light.1)
+weight_words (x ∷ w) light = (decimal_word x (let l = light.0 in omega arith), weight_words w light.1)
 
 root_word : (d : Gfid) → d ≡ root → IsWord (directory_word d)
 root_word d e = subst (λ (g : Gfid). IsWord (directory_word g)) (sym e) refl
@@ -61,11 +64,11 @@ root_word d e = subst (λ (g : Gfid). IsWord (directory_word g)) (sym e) refl
 name_word : (n : List ℕ) → IsFileName n → IsWord (spelled n)
 name_word n h = let text = file_text n h in rw text (text_word n (file_bytes n h))
 
-call_words_are : (c : ℕ) (verb : List ℕ) (d : Gfid) (n : List ℕ) → IsWord verb → c ≡ 0 → (d ≡ root) × IsFileName n → AllByRecursion IsWord (codes "call" ∷ decimal c ∷ verb ∷ directory_word d ∷ spelled n ∷ [])
-call_words_are c verb d n v zero call = (refl, (decimal_word c (omega arith), (v, (root_word d call.0, (name_word n call.1, tt)))))
+call_words_are : (c : ℕ) (verb : List ℕ) (d : Gfid) (n : List ℕ) → IsWord verb → c < 2 ^ 64 → (d ≡ root) × IsFileName n → AllByRecursion IsWord (codes "call" ∷ decimal c ∷ verb ∷ directory_word d ∷ spelled n ∷ [])
+call_words_are c verb d n v small call = (refl, (decimal_word c small, (v, (root_word d call.0, (name_word n call.1, tt)))))
 
-step_words_are : (c : ℕ) → c ≡ 0 → AllByRecursion IsWord (codes "step" ∷ decimal c ∷ [])
-step_words_are c zero = (refl, (decimal_word c (omega arith), tt))
+number_words_are : (word : List ℕ) (c : ℕ) → IsWord word → c < 2 ^ 64 → AllByRecursion IsWord (word ∷ decimal c ∷ [])
+number_words_are word c h small = (h, (decimal_word c small, tt))
 
 volume_words_are : (w : List ℕ) → IsScheduledVolume w → AllByRecursion IsWord (codes "volume" ∷ decimal (length w) ∷ map decimal w)
 volume_words_are w h = let few = h.few in (refl, (decimal_word (length w) (omega arith), weight_words w (recursion_from_All IsLight w h.light)))
@@ -75,7 +78,10 @@ pub words_of_text : (e : Event) → IsScheduled e → words_of (schedule_text e)
 words_of_text (Volume w) h = words_of-spaced (codes "volume") (decimal (length w) ∷ map decimal w) (volume_words_are w h)
 words_of_text (Called c (Lookup d n)) h = words_of-spaced (codes "call") (decimal c ∷ codes "lookup" ∷ directory_word d ∷ spelled n ∷ []) (call_words_are c (codes "lookup") d n refl h.0 h.1)
 words_of_text (Called c (Create d n)) h = words_of-spaced (codes "call") (decimal c ∷ codes "create" ∷ directory_word d ∷ spelled n ∷ []) (call_words_are c (codes "create") d n refl h.0 h.1)
-words_of_text (Step c) h = words_of-spaced (codes "step") (decimal c ∷ []) (step_words_are c h)
+words_of_text (Step x) h = words_of-spaced (codes "step") (decimal x ∷ []) (number_words_are (codes "step") x refl h)
+words_of_text (Down x) h = words_of-spaced (codes "down") (decimal x ∷ []) (number_words_are (codes "down") x refl h)
+words_of_text (Up x) h = words_of-spaced (codes "up") (decimal x ∷ []) (number_words_are (codes "up") x refl h)
+words_of_text (Die x) h = words_of-spaced (codes "die") (decimal x ∷ []) (number_words_are (codes "die") x refl h)
 
 -- ---- a line is one line
 
@@ -92,12 +98,15 @@ name_length n h = let text = file_text n h in let short = h.name.short in let si
 one_line_of : (words : List (List ℕ)) → AllByRecursion IsWord words → room words < 16384 → IsOneLine (spaced words)
 one_line_of words h few = record { one = no_newline words h; short = (let size = length-spaced-le words in omega arith) }
 
-call_line : (c : ℕ) (verb : List ℕ) (d : Gfid) (n : List ℕ) → IsWord verb → length verb ≡ 6 → c ≡ 0 → (d ≡ root) × IsFileName n → IsOneLine (spaced (codes "call" ∷ decimal c ∷ verb ∷ directory_word d ∷ spelled n ∷ []))
-call_line c verb d n v six zero call =
-    let client = length-decimal c (omega arith) in
+call_line : (c : ℕ) (verb : List ℕ) (d : Gfid) (n : List ℕ) → IsWord verb → length verb ≡ 6 → c < 2 ^ 64 → (d ≡ root) × IsFileName n → IsOneLine (spaced (codes "call" ∷ decimal c ∷ verb ∷ directory_word d ∷ spelled n ∷ []))
+call_line c verb d n v six small call =
+    let client = length-number c small in
     let directory = root_length d call.0 in
     let name = name_length n call.1 in
-    one_line_of (codes "call" ∷ decimal c ∷ verb ∷ directory_word d ∷ spelled n ∷ []) (call_words_are c verb d n v zero call) (omega arith)
+    one_line_of (codes "call" ∷ decimal c ∷ verb ∷ directory_word d ∷ spelled n ∷ []) (call_words_are c verb d n v small call) (omega arith)
+
+number_line : (word : List ℕ) (c : ℕ) → IsWord word → length word ≤ 4 → c < 2 ^ 64 → IsOneLine (spaced (word ∷ decimal c ∷ []))
+number_line word c h short small = let digits = length-number c small in one_line_of (word ∷ decimal c ∷ []) (number_words_are word c h small) (omega arith)
 
 pub event_line : (e : Event) → IsScheduled e → IsOneLine (schedule_text e)
 event_line (Volume w) h =
@@ -107,36 +116,70 @@ event_line (Volume w) h =
     one_line_of (codes "volume" ∷ decimal (length w) ∷ map decimal w) (volume_words_are w h) (omega arith)
 event_line (Called c (Lookup d n)) h = call_line c (codes "lookup") d n refl refl h.0 h.1
 event_line (Called c (Create d n)) h = call_line c (codes "create") d n refl refl h.0 h.1
-event_line (Step c) h = let client = length-decimal c (omega arith) in one_line_of (codes "step" ∷ decimal c ∷ []) (step_words_are c h) (omega arith)
+event_line (Step x) h = number_line (codes "step") x refl (omega arith) h
+event_line (Down x) h = number_line (codes "down") x refl (omega arith) h
+event_line (Up x) h = number_line (codes "up") x refl (omega arith) h
+event_line (Die x) h = number_line (codes "die") x refl (omega arith) h
 
 -- ---- a line is of one event
 
--- the first letter of the first word, and of the third
+-- the first letter of the first word, the second, and the first of the third word
 abbrev kind : List (List ℕ) → ℕ
 kind [] = 0
 kind (word ∷ words) = get_or word 0 0
+
+abbrev second : List (List ℕ) → ℕ
+second [] = 0
+second (word ∷ words) = get_or word 1 0
 
 abbrev verb : List (List ℕ) → ℕ
 verb [] = 0
 verb (word ∷ []) = 0
 verb (word ∷ client ∷ words) = kind words
 
-same_call : (c1 : ℕ) (d1 : Gfid) (n1 : List ℕ) (c2 : ℕ) (d2 : Gfid) (n2 : List ℕ) → c1 ≡ 0 → (d1 ≡ root) × IsFileName n1 → c2 ≡ 0 → (d2 ≡ root) × IsFileName n2 → spelled n1 ≡ spelled n2 → (c1 ≡ c2) × (d1 ≡ d2) × (n1 ≡ n2)
-same_call c1 d1 n1 c2 d2 n2 z1 h1 z2 h2 same = (z1 ∙ sym z2, h1.0 ∙ sym h2.0, same_name n1 n2 h1.1 h2.1 same)
+same_call : (c1 : ℕ) (d1 : Gfid) (n1 : List ℕ) (c2 : ℕ) (d2 : Gfid) (n2 : List ℕ) → c1 < 2 ^ 64 → (d1 ≡ root) × IsFileName n1 → c2 < 2 ^ 64 → (d2 ≡ root) × IsFileName n2 → decimal c1 ≡ decimal c2 → spelled n1 ≡ spelled n2 → (c1 ≡ c2) × (d1 ≡ d2) × (n1 ≡ n2)
+same_call c1 d1 n1 c2 d2 n2 s1 h1 s2 h2 client same = (decimal_injective c1 c2 s1 s2 client, h1.0 ∙ sym h2.0, same_name n1 n2 h1.1 h2.1 same)
 
 pub same_event : (a b : Event) → IsScheduled a → IsScheduled b → schedule_words a ≡ schedule_words b → a ≡ b
 same_event (Volume v) (Volume w) ha hb same = ap Volume (same_weights v w (recursion_from_All IsLight v ha.light) (recursion_from_All IsLight w hb.light) (cc same))
-same_event (Volume v) (Called c call) ha hb same = absurd (let letters : 118 ≡ 99 = ap kind same in omega arith)
-same_event (Volume v) (Step c) ha hb same = absurd (let letters : 118 ≡ 115 = ap kind same in omega arith)
-same_event (Called b call) (Volume w) ha hb same = absurd (let letters : 99 ≡ 118 = ap kind same in omega arith)
-same_event (Called b (Lookup d m)) (Called c (Lookup e n)) ha hb same = let p = same_call b d m c e n ha.0 ha.1 hb.0 hb.1 (cc same) in let same_client = p.0 in let same_directory = p.1 in let same_file = p.2 in cc
+same_event (Volume x) (Called y ycall) ha hb same = absurd (let letters : 118 ≡ 99 = ap kind same in omega arith)
+same_event (Volume x) (Step y) ha hb same = absurd (let letters : 118 ≡ 115 = ap kind same in omega arith)
+same_event (Volume x) (Down y) ha hb same = absurd (let letters : 118 ≡ 100 = ap kind same in omega arith)
+same_event (Volume x) (Up y) ha hb same = absurd (let letters : 118 ≡ 117 = ap kind same in omega arith)
+same_event (Volume x) (Die y) ha hb same = absurd (let letters : 118 ≡ 100 = ap kind same in omega arith)
+same_event (Called x xcall) (Volume y) ha hb same = absurd (let letters : 99 ≡ 118 = ap kind same in omega arith)
+same_event (Called b (Lookup d m)) (Called c (Lookup e n)) ha hb same = let p = same_call b d m c e n ha.0 ha.1 hb.0 hb.1 (cc same) (cc same) in let same_client = p.0 in let same_directory = p.1 in let same_file = p.2 in cc
 same_event (Called b (Lookup d m)) (Called c (Create e n)) ha hb same = absurd (let letters : 108 ≡ 99 = ap verb same in omega arith)
 same_event (Called b (Create d m)) (Called c (Lookup e n)) ha hb same = absurd (let letters : 99 ≡ 108 = ap verb same in omega arith)
-same_event (Called b (Create d m)) (Called c (Create e n)) ha hb same = let p = same_call b d m c e n ha.0 ha.1 hb.0 hb.1 (cc same) in let same_client = p.0 in let same_directory = p.1 in let same_file = p.2 in cc
-same_event (Called b call) (Step c) ha hb same = absurd (let letters : 99 ≡ 115 = ap kind same in omega arith)
-same_event (Step b) (Volume w) ha hb same = absurd (let letters : 115 ≡ 118 = ap kind same in omega arith)
-same_event (Step b) (Called c call) ha hb same = absurd (let letters : 115 ≡ 99 = ap kind same in omega arith)
-same_event (Step b) (Step c) ha hb same = ap Step (ha ∙ sym hb)
+same_event (Called b (Create d m)) (Called c (Create e n)) ha hb same = let p = same_call b d m c e n ha.0 ha.1 hb.0 hb.1 (cc same) (cc same) in let same_client = p.0 in let same_directory = p.1 in let same_file = p.2 in cc
+same_event (Called x xcall) (Step y) ha hb same = absurd (let letters : 99 ≡ 115 = ap kind same in omega arith)
+same_event (Called x xcall) (Down y) ha hb same = absurd (let letters : 99 ≡ 100 = ap kind same in omega arith)
+same_event (Called x xcall) (Up y) ha hb same = absurd (let letters : 99 ≡ 117 = ap kind same in omega arith)
+same_event (Called x xcall) (Die y) ha hb same = absurd (let letters : 99 ≡ 100 = ap kind same in omega arith)
+same_event (Step x) (Volume y) ha hb same = absurd (let letters : 115 ≡ 118 = ap kind same in omega arith)
+same_event (Step x) (Called y ycall) ha hb same = absurd (let letters : 115 ≡ 99 = ap kind same in omega arith)
+same_event (Step x) (Step y) ha hb same = ap Step (decimal_injective x y ha hb (cc same))
+same_event (Step x) (Down y) ha hb same = absurd (let letters : 115 ≡ 100 = ap kind same in omega arith)
+same_event (Step x) (Up y) ha hb same = absurd (let letters : 115 ≡ 117 = ap kind same in omega arith)
+same_event (Step x) (Die y) ha hb same = absurd (let letters : 115 ≡ 100 = ap kind same in omega arith)
+same_event (Down x) (Volume y) ha hb same = absurd (let letters : 100 ≡ 118 = ap kind same in omega arith)
+same_event (Down x) (Called y ycall) ha hb same = absurd (let letters : 100 ≡ 99 = ap kind same in omega arith)
+same_event (Down x) (Step y) ha hb same = absurd (let letters : 100 ≡ 115 = ap kind same in omega arith)
+same_event (Down x) (Down y) ha hb same = ap Down (decimal_injective x y ha hb (cc same))
+same_event (Down x) (Up y) ha hb same = absurd (let letters : 100 ≡ 117 = ap kind same in omega arith)
+same_event (Down x) (Die y) ha hb same = absurd (let letters : 111 ≡ 105 = ap second same in omega arith)
+same_event (Up x) (Volume y) ha hb same = absurd (let letters : 117 ≡ 118 = ap kind same in omega arith)
+same_event (Up x) (Called y ycall) ha hb same = absurd (let letters : 117 ≡ 99 = ap kind same in omega arith)
+same_event (Up x) (Step y) ha hb same = absurd (let letters : 117 ≡ 115 = ap kind same in omega arith)
+same_event (Up x) (Down y) ha hb same = absurd (let letters : 117 ≡ 100 = ap kind same in omega arith)
+same_event (Up x) (Up y) ha hb same = ap Up (decimal_injective x y ha hb (cc same))
+same_event (Up x) (Die y) ha hb same = absurd (let letters : 117 ≡ 100 = ap kind same in omega arith)
+same_event (Die x) (Volume y) ha hb same = absurd (let letters : 100 ≡ 118 = ap kind same in omega arith)
+same_event (Die x) (Called y ycall) ha hb same = absurd (let letters : 100 ≡ 99 = ap kind same in omega arith)
+same_event (Die x) (Step y) ha hb same = absurd (let letters : 100 ≡ 115 = ap kind same in omega arith)
+same_event (Die x) (Down y) ha hb same = absurd (let letters : 105 ≡ 111 = ap second same in omega arith)
+same_event (Die x) (Up y) ha hb same = absurd (let letters : 100 ≡ 117 = ap kind same in omega arith)
+same_event (Die x) (Die y) ha hb same = ap Die (decimal_injective x y ha hb (cc same))
 
 -- ---- what a line's words tell
 
@@ -157,11 +200,17 @@ out_of_memory : (e : Event) (rest : List (List ℕ)) → schedule_words e ≡ co
 out_of_memory (Volume w) rest same = inr refl
 out_of_memory (Called c call) rest same = absurd (let letters : 99 ≡ 118 = ap kind same in omega arith)
 out_of_memory (Step c) rest same = absurd (let letters : 115 ≡ 118 = ap kind same in omega arith)
+out_of_memory (Down b) rest same = absurd (let letters : 100 ≡ 118 = ap kind same in omega arith)
+out_of_memory (Up b) rest same = absurd (let letters : 117 ≡ 118 = ap kind same in omega arith)
+out_of_memory (Die c) rest same = absurd (let letters : 100 ≡ 118 = ap kind same in omega arith)
 
 is_read : (e : Event) → IsReadOf e (Ok e)
 is_read (Volume w) = inl refl
 is_read (Called c call) = refl
 is_read (Step c) = refl
+is_read (Down b) = refl
+is_read (Up b) = refl
+is_read (Die c) = refl
 
 pub read_only : (line : List ℕ) (r : Result Event LineFault) → ReadsUnless schedule_words IsScheduled (words_of line) r → (IsErrOf r OutOfMemory → (rest : List (List ℕ)) × (words_of line ≡ codes "volume" ∷ rest)) → (e : Event) → IsScheduled e → line ≡ schedule_text e → IsReadOf e r
 read_only line (Ok f) h memory e fits same =
@@ -190,5 +239,8 @@ no_volume words others bricks word w e small text light weights none (Volume v) 
     let v_is : v ≡ w = same_weights v w (recursion_from_All IsLight v h.light) (recursion_from_All IsLight w light) (cc (same, e, weights)) in
     let size : length v ≡ bricks = decimal_injective (length v) bricks (omega arith) small (cc (same, e, text)) in
     none (sym size ∙ ap length v_is) (subst (λ (x : List ℕ). (1 ≤ length x) × (length x ≤ 32) × HasWeight x) v_is (h.some, few, h.heavy))
-no_volume words others bricks word w e small text light weights none (Called c call) h same = absurd (let letters : 99 ≡ 118 = ap kind same in omega arith)
-no_volume words others bricks word w e small text light weights none (Step c) h same = absurd (let letters : 115 ≡ 118 = ap kind same in omega arith)
+no_volume words others bricks word w e small text light weights none (Called x xcall) h same = absurd (let letters : 99 ≡ 118 = ap kind same in omega arith)
+no_volume words others bricks word w e small text light weights none (Step x) h same = absurd (let letters : 115 ≡ 118 = ap kind same in omega arith)
+no_volume words others bricks word w e small text light weights none (Down x) h same = absurd (let letters : 100 ≡ 118 = ap kind same in omega arith)
+no_volume words others bricks word w e small text light weights none (Up x) h same = absurd (let letters : 117 ≡ 118 = ap kind same in omega arith)
+no_volume words others bricks word w e small text light weights none (Die x) h same = absurd (let letters : 100 ≡ 118 = ap kind same in omega arith)

@@ -1,11 +1,10 @@
 -- A number is read by printing it again.
-use Rattle.std.proofs.Common.{◌≡◌, ◌≢◌, ℕ, ◌^◌, ◌<◌, ◌≤◌, lit<, arith, eqb, eq-eqb, Bool, true, false, List, Some, None, Result, Ok, Err, decimal, sym, ap, ◌∙◌}
+use Rattle.std.proofs.Common.{◌≡◌, ◌≢◌, ℕ, ◌^◌, ◌<◌, ◌≤◌, arith, Bool, true, false, List, Some, None, Result, Ok, Err, decimal, sym, ap, ◌∙◌}
 use Rattle.std.specs.Prelude.{IsUtf8}
 use Rattle.std.specs.Bool.{then_some}
 use Rattle.std.specs.Result.{MatchResult, result_ok}
 use Rattle.std.specs.Str.{bytes_eq}
 use Rattle.std.specs.Str.Parse.{ParsesUnsigned}
-use Rattle.std.proofs.lemmas.Bool.{eqb-true}
 use Rattle.std.proofs.lemmas.Fmt.{parse-decimal, IsAscii-decimal, decimal_injective}
 use Rattle.std.proofs.lemmas.Slice.Eq.{bytes_eq-Decides}
 use Rattle.std.proofs.lemmas.Str.{IsUtf8-from_ascii}
@@ -39,14 +38,6 @@ number_read word printed number true e p lt only = (lt, sym p ∙ (bytes_eq-Deci
 number_read word printed number false e p lt only = λ n small same.
     let again : printed ≡ word = p ∙ (sym (ap decimal (only n small same)) ∙ same) in
     let yes = (bytes_eq-Decides printed word).1 again in
-    cc (e, yes)
-
--- the number is the one that a word may be, or it is not
-pub client_read : (word : List ℕ) (n : ℕ) (b : Bool) → b ≡ eqb n 0 → n < 2 ^ 64 → decimal n ≡ word → Reads decimal (λ c. c ≡ 0) word (then_some b n)
-client_read word n true e small same = (eqb-true n 0 (sym e), same)
-client_read word n false e small same = λ c zero again.
-    let n_is : n ≡ 0 = decimal_injective n 0 small (lit< tt) (same ∙ (sym again ∙ ap decimal zero)) in
-    let yes = eq-eqb n 0 n_is in
     cc (e, yes)
 
 pub too_heavy : (word : List ℕ) (n : ℕ) → n < 2 ^ 64 → decimal n ≡ word → 1000 < n → (w : ℕ) → w ≤ 1000 → decimal w ≢ word

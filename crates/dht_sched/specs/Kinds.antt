@@ -1,5 +1,5 @@
 -- The words of requests and replies.
-use Rattle.std.specs.Prelude.{ℕ, List, ◌++◌, codes}
+use Rattle.std.specs.Prelude.{ℕ, Bool, true, false, List, ◌++◌, codes}
 use Rattle.dht_types.specs.declared.lines.RequestKind.{RequestKind}
 use Rattle.dht_types.specs.declared.lines.RequestKind.TheVariants as request
 use Rattle.dht_types.specs.declared.lines.Refusal.{Refusal}
@@ -48,6 +48,26 @@ request_word request.DropStandby = codes "dropstandby"
 request_word request.Demote = codes "demote"
 request_word request.Promote = codes "promote"
 request_word request.Drop = codes "drop"
+
+-- whether a request is on a file's record
+abbrev pub is_on_file : RequestKind → Bool
+is_on_file request.Read = true
+is_on_file request.Write = true
+is_on_file request.LockedWrite = true
+is_on_file request.Truncate = true
+is_on_file request.LockedTruncate = true
+is_on_file request.Stat = true
+is_on_file request.Mark = true
+is_on_file request.Unmark = true
+is_on_file request.MakeStandby = true
+is_on_file request.StandbyWrite = true
+is_on_file request.CopyWrite = true
+is_on_file request.ClearDirty = true
+is_on_file request.DropStandby = true
+is_on_file request.Demote = true
+is_on_file request.Promote = true
+is_on_file request.Drop = true
+is_on_file q = false
 
 abbrev pub refusal_word : Refusal → List ℕ
 refusal_word refusal.Nodir = codes "nodir"

@@ -6,13 +6,13 @@ use Rattle.dht_types.specs.Text.{gfid_text}
 use Rattle.dht_types.specs.declared.calls.Call.{Call}
 use Rattle.dht_types.specs.declared.calls.Call.TheVariants.{Lookup, Create}
 use Rattle.dht_types.specs.declared.calls.Answer.{Answer}
-use Rattle.dht_types.specs.declared.calls.Answer.TheVariants.{File, Made, Fault}
+use Rattle.dht_types.specs.declared.calls.Answer.TheVariants.{File, Dir, Made, Fault}
 use Rattle.dht_types.specs.declared.calls.TreeStep.{TreeStep}
 use Rattle.dht_types.specs.declared.calls.TreeStep.TheVariants.{AddFile}
 use Rattle.dht_types.specs.declared.lines.Cause.{Cause}
-use Rattle.dht_types.specs.declared.lines.Cause.TheVariants.{Busy, Idle}
+use Rattle.dht_types.specs.declared.lines.Cause.TheVariants.{Unknown, Dead, Busy, Idle}
 use Rattle.dht_types.specs.declared.lines.Line.{Line}
-use Rattle.dht_types.specs.declared.lines.Line.TheVariants.{Volume, Called, Stepped, Tree, Answered, Refused}
+use Rattle.dht_types.specs.declared.lines.Line.TheVariants.{Volume, Called, Stepped, Waited, Tree, Answered, WentDown, CameUp, Died, Refused}
 use Rattle.dht_types.specs.declared.lines.DumpLine.{DumpLine}
 use Rattle.dht_sched.specs.Dump.{dump_words}
 use Rattle.dht_sched.specs.Kinds.{request_word, reply_word}
@@ -36,10 +36,13 @@ point_words (Some line) = codes "at" ∷ decimal line ∷ []
 
 abbrev pub answer_words : Answer → List (List ℕ)
 answer_words (File f) = codes "file" ∷ gfid_text f ∷ []
+answer_words (Dir g) = codes "dir" ∷ gfid_text g ∷ []
 answer_words (Made f) = codes "made" ∷ gfid_text f ∷ []
 answer_words (Fault error) = errno_word error ∷ []
 
 abbrev pub cause_word : Cause → List ℕ
+cause_word Unknown = codes "unknown"
+cause_word Dead = codes "dead"
 cause_word Busy = codes "busy"
 cause_word Idle = codes "idle"
 
@@ -47,8 +50,12 @@ abbrev pub line_words : Line → List (List ℕ)
 line_words (Volume w) = codes "volume" ∷ decimal (length w) ∷ map decimal w
 line_words (Called k c call) = codes "call" ∷ decimal k.0 ∷ decimal c.0 ∷ called_words call
 line_words (Stepped k c b q r) = codes "step" ∷ decimal k.0 ∷ decimal c.0 ∷ decimal b.0 ∷ request_word q ∷ reply_word r ∷ []
+line_words (Waited k c b holder) = codes "wait" ∷ decimal k.0 ∷ decimal c.0 ∷ decimal b.0 ∷ decimal holder.0 ∷ []
 line_words (Tree k step) = codes "tree" ∷ decimal k.0 ∷ tree_words step
 line_words (Answered k c point a) = codes "answer" ∷ decimal k.0 ∷ decimal c.0 ∷ (point_words point ++ answer_words a)
+line_words (WentDown b) = codes "down" ∷ decimal b.0 ∷ []
+line_words (CameUp b) = codes "up" ∷ decimal b.0 ∷ []
+line_words (Died c) = codes "die" ∷ decimal c.0 ∷ []
 line_words (Refused n cause) = codes "refused" ∷ decimal n ∷ cause_word cause ∷ []
 
 unfoldable pub line_text : Line → List ℕ
@@ -70,6 +77,10 @@ dump_lines_text lines = flat_map dump_text lines
 -- the schedule's line of this number is malformed
 unfoldable pub malformed_text : ℕ → List ℕ
 malformed_text n = text_of (codes "malformed" ∷ decimal n ∷ [])
+
+-- the run has had all its steps
+unfoldable pub limit_text : List ℕ
+limit_text = text_of (codes "limit" ∷ [])
 
 -- what the program can be asked for
 unfoldable pub usage_text : List ℕ

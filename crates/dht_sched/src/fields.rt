@@ -3,6 +3,7 @@
 ghost use Rattle.std.specs.Prelude.{◌≡◌, ◌++◌, ◌∷◌, [], map, decimal, Some, OnOk, OnErr};
 ghost use Rattle.std.specs.List.{flat_map};
 ghost use Rattle.dht_types.specs.Text.{gfid_text, hex_bytes};
+ghost use Rattle.dht_types.specs.declared.lines.RecordLine.TheVariants.{Forward};
 ghost use Rattle.dht_types.specs.declared.stored.Main.TheVariants.{File};
 ghost use Rattle.dht_sched.specs.Printing.{Appends, field_words, behind_spaces};
 ghost use Rattle.dht_sched.specs.Spelling.{spelled};
@@ -209,6 +210,16 @@ fn push_content(out: &mut Vec<u8>, numbers: [u64; 3], digest: &[u8]) -> Result<(
     push_hex_word(out, digest)
 }
 
+/// Appends where a file was moved on to.
+fn push_forward(out: &mut Vec<u8>, brick: BrickNo, hop: u64) -> Result<(), AllocError>
+    ensures { Appends out.old.items out.new.items result
+        (behind_spaces (record_words (Forward brick hop))) }
+{
+    push_word(out, b"forward")?;
+    push_number_word(out, u64::from(brick.0))?;
+    push_number_word(out, hop)
+}
+
 /// Appends what a dump tells of a file's record.
 fn push_record(out: &mut Vec<u8>, line: &RecordLine) -> Result<(), AllocError>
     ensures { Appends out.old.items out.new.items result (behind_spaces (record_words line.now)) }
@@ -245,11 +256,7 @@ fn push_record(out: &mut Vec<u8>, line: &RecordLine) -> Result<(), AllocError>
             push_content(out, [*hop, u64::from(source.0), *length], digest)?;
             push_word(out, if *is_dirty { b"dirty" } else { b"clean" })
         }
-        RecordLine::Forward { brick, hop } => {
-            push_word(out, b"forward")?;
-            push_number_word(out, u64::from(brick.0))?;
-            push_number_word(out, *hop)
-        }
+        RecordLine::Forward { brick, hop } => push_forward(out, *brick, *hop),
     }
 }
 

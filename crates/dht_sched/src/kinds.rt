@@ -1,9 +1,35 @@
 //! The words of requests and replies.
 
-ghost use Rattle.std.specs.Prelude.{◌≡◌, ◌++◌, codes};
-ghost use Rattle.dht_sched.specs.Kinds.{request_word, refusal_word, reply_word};
+ghost use Rattle.std.specs.Prelude.{◌≡◌, ◌++◌, codes, IsTrue};
+ghost use Rattle.dht_sched.specs.Kinds.{is_on_file, request_word, refusal_word, reply_word};
 
 use dht_types::lines::{Refusal, ReplyKind, RequestKind};
+
+/// The word of a kind of request on a file's record.
+fn file_request_word(kind: RequestKind) -> &'static str
+    requires { IsTrue (is_on_file kind) }
+    ensures { result.now ≡ request_word kind }
+{
+    match kind {
+        RequestKind::Read => "read",
+        RequestKind::Write => "write",
+        RequestKind::LockedWrite => "lwrite",
+        RequestKind::Truncate => "truncate",
+        RequestKind::LockedTruncate => "ltruncate",
+        RequestKind::Stat => "stat",
+        RequestKind::Mark => "mark",
+        RequestKind::Unmark => "unmark",
+        RequestKind::MakeStandby => "mkstandby",
+        RequestKind::StandbyWrite => "standbywrite",
+        RequestKind::CopyWrite => "copywrite",
+        RequestKind::ClearDirty => "cleardirty",
+        RequestKind::DropStandby => "dropstandby",
+        RequestKind::Demote => "demote",
+        RequestKind::Promote => "promote",
+        RequestKind::Drop => "drop",
+        _ => unreachable!(),
+    }
+}
 
 /// The word of a kind of request.
 pub(crate) fn request_word(kind: RequestKind) -> &'static str
@@ -34,22 +60,7 @@ pub(crate) fn request_word(kind: RequestKind) -> &'static str
         RequestKind::Swap => "swap",
         RequestKind::PromoteLink => "promotelink",
         RequestKind::Orphans => "orphans",
-        RequestKind::Read => "read",
-        RequestKind::Write => "write",
-        RequestKind::LockedWrite => "lwrite",
-        RequestKind::Truncate => "truncate",
-        RequestKind::LockedTruncate => "ltruncate",
-        RequestKind::Stat => "stat",
-        RequestKind::Mark => "mark",
-        RequestKind::Unmark => "unmark",
-        RequestKind::MakeStandby => "mkstandby",
-        RequestKind::StandbyWrite => "standbywrite",
-        RequestKind::CopyWrite => "copywrite",
-        RequestKind::ClearDirty => "cleardirty",
-        RequestKind::DropStandby => "dropstandby",
-        RequestKind::Demote => "demote",
-        RequestKind::Promote => "promote",
-        RequestKind::Drop => "drop",
+        _ => file_request_word(kind),
     }
 }
 

@@ -16,4 +16,4 @@ pub use commands::{print_hash, print_range};
 pub use dump::print_dump_line;
 pub use fault::LineFault;
 pub use schedule::{is_volume, one_line, read_line, read_weight};
-pub use transcript::{lines_follow, print_line, print_malformed, print_usage};
+pub use transcript::{lines_follow, print_limit, print_line, print_malformed, print_usage};

@@ -1,6 +1,6 @@
 //! The lines of schedules, read.
 
-ghost use Rattle.std.specs.Prelude.{◌≡◌, ◌≢◌, ◌≤◌, ◌↔◌, ◌∷◌, ℕ, List, IsTrue, IfOk, IsErrOf, All, length, map, codes, decimal};
+ghost use Rattle.std.specs.Prelude.{◌≡◌, ◌≢◌, ◌≤◌, ◌<◌, ◌^◌, ◌↔◌, ◌∷◌, [], ℕ, List, IsTrue, IfOk, IsErrOf, All, length, map, codes, decimal};
 ghost use Rattle.dht_types.specs.Gfid.{root};
 ghost use Rattle.dht_types.specs.declared.events.Event.{Event};
 ghost use Rattle.dht_sched.specs.Reading.{Reads, ReadsUnless};
@@ -17,14 +17,6 @@ use dht_types::identifiers::Gfid;
 use dht_types::volumes::{GREATEST_WEIGHT, MOST_BRICKS, Weights};
 use std::alloc::Global;
 
-/// The client of a word: there is one, 0.
-fn read_client(word: &[u8]) -> Option<u64>
-    ensures { Reads decimal (λ c. c ≡ 0) word.now result }
-{
-    let client = number(word)?;
-    (client == 0).then_some(client)
-}
-
 /// The directory of a word: the root, `@`.
 fn read_directory(word: &[u8]) -> Option<Gfid>
     ensures { Reads directory_word (λ d. d ≡ root) word.now result }
@@ -36,7 +28,7 @@ fn read_directory(word: &[u8]) -> Option<Gfid>
 fn read_call(mut words: Words<'_>) -> Option<Event>
     ensures { Reads schedule_words IsScheduled (codes "call" ∷ words.entry) result }
 {
-    let client = read_client(words.next()?)?;
+    let client = number(words.next()?)?;
     let verb = words.next()?;
     let directory = read_directory(words.next()?)?;
     let name = read_name(words.next()?)?;
@@ -50,15 +42,47 @@ fn read_call(mut words: Words<'_>) -> Option<Event>
     }
 }
 
-/// The event of a line that begins with `step`, by its other words.
-fn read_step(mut words: Words<'_>) -> Option<Event>
-    ensures { Reads schedule_words IsScheduled (codes "step" ∷ words.entry) result }
+/// The number that is the only word left.
+fn last_number(mut words: Words<'_>) -> Option<u64>
+    ensures { Reads (λ number. decimal number ∷ []) (λ number. number < 2 ^ 64) words.entry result }
 {
-    let client = read_client(words.next()?)?;
+    let number = number(words.next()?)?;
     if words.next().is_some() {
         return None;
     }
+    Some(number)
+}
+
+/// The event of a line that begins with `step`, by its other words.
+fn read_step(words: Words<'_>) -> Option<Event>
+    ensures { Reads schedule_words IsScheduled (codes "step" ∷ words.entry) result }
+{
+    let client = last_number(words)?;
     Some(Event::Step(client))
+}
+
+/// The event of a line that begins with `down`, by its other words.
+fn read_down(words: Words<'_>) -> Option<Event>
+    ensures { Reads schedule_words IsScheduled (codes "down" ∷ words.entry) result }
+{
+    let brick = last_number(words)?;
+    Some(Event::Down(brick))
+}
+
+/// The event of a line that begins with `up`, by its other words.
+fn read_up(words: Words<'_>) -> Option<Event>
+    ensures { Reads schedule_words IsScheduled (codes "up" ∷ words.entry) result }
+{
+    let brick = last_number(words)?;
+    Some(Event::Up(brick))
+}
+
+/// The event of a line that begins with `die`, by its other words.
+fn read_die(words: Words<'_>) -> Option<Event>
+    ensures { Reads schedule_words IsScheduled (codes "die" ∷ words.entry) result }
+{
+    let client = last_number(words)?;
+    Some(Event::Die(client))
 }
 
 /// The weight that a word spells in decimal, with no sign and no leading zero. There is none where
@@ -128,6 +152,9 @@ fn read_words(alloc: Global, mut words: Words<'_>) -> Result<Event, LineFault>
         b"volume" => read_volume(alloc, words),
         b"call" => read_call(words).ok_or(LineFault::Malformed),
         b"step" => read_step(words).ok_or(LineFault::Malformed),
+        b"down" => read_down(words).ok_or(LineFault::Malformed),
+        b"up" => read_up(words).ok_or(LineFault::Malformed),
+        b"die" => read_die(words).ok_or(LineFault::Malformed),
         _ => Err(LineFault::Malformed),
     }
 }

@@ -1,10 +1,10 @@
 //! The lines of transcripts, printed.
 
 ghost use Rattle.std.specs.Prelude.{◌≡◌, ◌++◌, ◌∷◌, [], List, OnOk, OnErr};
-ghost use Rattle.dht_sched.specs.Transcript.{cause_word, line_text, lines_text, dump_text, dump_lines_text, malformed_text, usage_text};
+ghost use Rattle.dht_sched.specs.Transcript.{cause_word, line_text, lines_text, dump_text, dump_lines_text, malformed_text, limit_text, usage_text};
 ghost use Rattle.dht_types.specs.declared.lines.Line.{Line};
 ghost use Rattle.dht_types.specs.declared.lines.DumpLine.{DumpLine};
-ghost use Rattle.dht_types.specs.declared.lines.Line.TheVariants.{Called, Stepped, Tree, Answered};
+ghost use Rattle.dht_types.specs.declared.lines.Line.TheVariants.{Called, Stepped, Waited, Tree, Answered};
 
 use crate::fields::{Field, print_fields};
 use crate::kinds::{reply_word, request_word};
@@ -18,6 +18,8 @@ fn cause_word(cause: Cause) -> &'static str
     ensures { result.now ≡ cause_word cause }
 {
     match cause {
+        Cause::Unknown => "unknown",
+        Cause::Dead => "dead",
         Cause::Busy => "busy",
         Cause::Idle => "idle",
     }
@@ -72,6 +74,26 @@ fn print_step(
     print_fields(out, "step", &[number, client, brick, kind, reply])
 }
 
+/// A lock waits.
+#[tactic(auto, unfolding(crate::specs::Transcript::line_text))]
+fn print_wait(
+    out: &mut Vec<u8>,
+    number: CallNo,
+    client: ClientNo,
+    brick: BrickNo,
+    holder: ClientNo,
+) -> Result<(), AllocError>
+    ensures ok { OnOk result (out.new.items
+        ≡ out.old.items ++ line_text (Waited number client brick holder)) }
+    ensures err { OnErr result (out.new.items ≡ out.old.items) }
+{
+    let number = Field::Number(number.0);
+    let client = Field::Number(u64::from(client.0));
+    let brick = Field::Number(u64::from(brick.0));
+    let holder = Field::Number(u64::from(holder.0));
+    print_fields(out, "wait", &[number, client, brick, holder])
+}
+
 /// The tree changed.
 #[tactic(auto, unfolding(crate::specs::Transcript::line_text))]
 fn print_tree(out: &mut Vec<u8>, number: CallNo, step: &TreeStep) -> Result<(), AllocError>
@@ -109,32 +131,21 @@ fn print_answer(
     let number = Field::Number(number.0);
     let client = Field::Number(u64::from(client.0));
     let point = Field::Point(point);
-    match answer {
-        Answer::File(file) => {
-            let words = [
-                number,
-                client,
-                point,
-                Field::Word("file"),
-                Field::Gfid(file),
-            ];
-            print_fields(out, "answer", &words)
-        }
-        Answer::Made(file) => {
-            let words = [
-                number,
-                client,
-                point,
-                Field::Word("made"),
-                Field::Gfid(file),
-            ];
-            print_fields(out, "answer", &words)
-        }
+    let (word, gfid) = match answer {
+        Answer::File(file) => ("file", file),
+        Answer::Dir(dir) => ("dir", dir),
+        Answer::Made(file) => ("made", file),
         Answer::Fault(error) => {
             let error = Field::Word(errno_word(error));
-            print_fields(out, "answer", &[number, client, point, error])
+            return print_fields(out, "answer", &[number, client, point, error]);
         }
-    }
+    };
+    let word = Field::Word(word);
+    print_fields(
+        out,
+        "answer",
+        &[number, client, point, word, Field::Gfid(gfid)],
+    )
 }
 
 /// Appends the line of an event to `out`, with its newline. Where memory runs out, `out` stays as it
@@ -154,10 +165,16 @@ pub fn print_line(line: &Line, out: &mut Vec<u8>) -> Result<(), AllocError>
         Line::Stepped(number, client, brick, kind, reply) => {
             print_step(out, *number, *client, *brick, *kind, *reply)
         }
+        Line::Waited(number, client, brick, holder) => {
+            print_wait(out, *number, *client, *brick, *holder)
+        }
         Line::Tree(number, step) => print_tree(out, *number, step),
         Line::Answered(number, client, point, answer) => {
             print_answer(out, *number, *client, *point, *answer)
         }
+        Line::WentDown(brick) => print_fields(out, "down", &[Field::Number(u64::from(brick.0))]),
+        Line::CameUp(brick) => print_fields(out, "up", &[Field::Number(u64::from(brick.0))]),
+        Line::Died(client) => print_fields(out, "die", &[Field::Number(u64::from(client.0))]),
         Line::Refused(number, cause) => {
             let cause = Field::Word(cause_word(*cause));
             print_fields(out, "refused", &[Field::Number(*number), cause])
@@ -173,6 +190,16 @@ pub fn print_malformed(number: u64, out: &mut Vec<u8>) -> Result<(), AllocError>
     ensures err { OnErr result (out.new.items ≡ out.old.items) }
 {
     print_fields(out, "malformed", &[Field::Number(number)])
+}
+
+/// Appends the last line of a run that has had all its steps. Where memory runs out, `out` stays as
+/// it was.
+#[tactic(auto, unfolding(crate::specs::Transcript::limit_text))]
+pub fn print_limit(out: &mut Vec<u8>) -> Result<(), AllocError>
+    ensures ok { OnOk result (out.new.items ≡ out.old.items ++ limit_text) }
+    ensures err { OnErr result (out.new.items ≡ out.old.items) }
+{
+    print_fields(out, "limit", &[])
 }
 
 /// Appends what the program can be asked for. Where memory runs out, `out` stays as it was.

@@ -1,4 +1,7 @@
-pub mod ContentsLaws
-pub mod EarlyLaws
 pub mod SceneLaws
+pub mod EarlyLaws
+pub mod UnservedLaws
+pub mod ClaimLaws
+pub mod ClosingSteps
 pub mod SectionSteps
+pub mod LayoutLaws

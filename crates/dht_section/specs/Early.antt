@@ -1,16 +1,15 @@
 -- What holds beside the invariant only as long as no call does more than look for files and make
 -- them. A request that does more deletes the fact that it makes false, and nothing else changes.
-use Rattle.std.specs.Prelude.{ℕ, ◌<◌, ◌≡◌, ◌≢◌, ◌⊎◌, is_some, Some, None, List}
+use Rattle.std.specs.Prelude.{ℕ, ◌<◌, ◌≡◌, ◌⊎◌, is_some, Some, List}
 use Rattle.dht_types.specs.Gfid.{Entry, root, same_gfid}
 use Rattle.dht_types.specs.History.{History}
 use Rattle.dht_types.specs.declared.identifiers.Gfid.{Gfid}
-use Rattle.dht_types.specs.declared.locks.Key.{Key}
 use Rattle.dht_types.specs.declared.stored.Slot.{Slot}
 use Rattle.dht_types.specs.declared.stored.Record.{Record}
 use Rattle.dht_types.specs.declared.stored.Record.TheVariants.{Live}
 use Rattle.dht_xattr.specs.Plan.{planned}
 use Rattle.dht_brick.specs.Contents.{bare}
-use Rattle.dht_section.specs.Disk.{Disk, name_at, slot_at, file_at, dir_at, layout_of, holder_of, holders}
+use Rattle.dht_section.specs.Disk.{Disk, name_at, slot_at, file_at, dir_at, layout_of, holder_of}
 use Rattle.dht_section.specs.Truth.{plain}
 
 -- a slot has no part, or is a file's name where nothing is under way
@@ -20,10 +19,6 @@ IsPlain p = (p ≡ bare) ⊎ ((f : Gfid) × (p ≡ plain f))
 -- the record of a file that was never moved
 abbrev pub IsUnmoved : Record → Type 0
 IsUnmoved r = (bytes : List ℕ) × (r ≡ Live 0 bytes)
-
--- no client but the first holds a lock
-abbrev pub OnlyFirstHolds : Disk → Type 0
-OnlyFirstHolds d = (b c : ℕ) (key : Key) → c ≢ 0 → holders d b key c ≡ None
 
 pub record Early (d : Disk) (s : History) : Type 0 where
   -- until a linkto is made, a link, a rename or a directory
@@ -37,5 +32,3 @@ pub record Early (d : Disk) (s : History) : Type 0 where
   pub planned : layout_of d root ≡ planned s.weights root
   -- until a directory is made
   pub alone : (b : ℕ) (g : Gfid) → b < d.count → is_some (dir_at d b g) ≡ same_gfid g root
-  -- until another client does something: the first one is never told to wait
-  pub sole : OnlyFirstHolds d

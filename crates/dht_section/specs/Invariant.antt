@@ -1,5 +1,5 @@
--- The invariant of the volume: what holds of bricks and history between any two requests, whoever
--- asks. Its parts by thing are each about one name, one file, one directory or one lock.
+-- The invariant of the volume: what holds of bricks, history and claims between any two requests,
+-- whoever asks. Its parts by thing are each about one name, one file, one directory or one lock.
 use Rattle.std.specs.Prelude.{ℕ, ◌+◌, ◌^◌, ◌<◌, ◌≤◌, ◌≡◌, ◌≢◌, Any, true, is_some, Some, None, length}
 use Rattle.dht_types.specs.Gfid.{Entry, root}
 use Rattle.dht_types.specs.Tree.{Tree}
@@ -10,6 +10,7 @@ use Rattle.dht_types.specs.declared.identifiers.ClientNo.{ClientNo}
 use Rattle.dht_types.specs.declared.locks.Key.{Key}
 use Rattle.dht_types.specs.declared.stored.Record.{Record}
 use Rattle.dht_brick.specs.Contents.{bare}
+use Rattle.dht_section.specs.Claims.{Claim, places_of}
 use Rattle.dht_section.specs.Disk.{Disk, slot_at, file_at, dir_at, holders}
 use Rattle.dht_section.specs.Dirs.{DirInvariant}
 use Rattle.dht_section.specs.Files.{FileInvariant}
@@ -29,16 +30,12 @@ pub data Used (d : Disk) (t : Tree) (g : Gfid) : Type 0 where
 abbrev pub most_hops : History → ℕ
 most_hops s = 2 ^ 62 + s.size
 
--- up to where each client has copied a file to a brick: no call copies yet
-abbrev pub no_places : ℕ → ℕ → ℕ
-no_places brick client = 0
-
 -- each thing is as it should be, where no file was moved more often than top
-pub record Things (d : Disk) (t : Tree) (top : ℕ) : Type 0 where
+pub record Things (d : Disk) (t : Tree) (top : ℕ) (claims : ℕ → Claim) : Type 0 where
   pub names : (e : Entry) → NameInvariant d.count (cores_of d e) (t.names e)
-  pub files : (f : Gfid) → FileInvariant d.count top no_places (view_of d f) (t.bytes f)
+  pub files : (f : Gfid) → FileInvariant d.count top (places_of claims f) (view_of d f) (t.bytes f)
   pub dirs : (g : Gfid) → DirInvariant d.count g (dir_view d g) (t.dirs g)
-  pub locks : (b : ℕ) (key : Key) → b < d.count → LockInvariant (holders d b key)
+  pub locks : (b : ℕ) (key : Key) → b < d.count → LockInvariant b key (holders d b key) claims
   -- a brick has slots only of directories that it has, and it has the root
   pub housed : (e : Entry) (b : ℕ)
       → b < d.count → slot_at d b e ≢ bare → is_some (dir_at d b e.0) ≡ true
@@ -51,8 +48,8 @@ NothingUsed d s =
     → r.number.0 < 2 ^ 64 → s.pending c.0 ≡ Some r → r.deeds ≡ None
     → IsOwn s.run c r.number g → Used d s.tree g → ⊥
 
-pub record Invariant (d : Disk) (s : History) : Type 0 where
-  pub things : Things d s.tree (most_hops s)
+pub record Invariant (d : Disk) (s : History) (claims : ℕ → Claim) : Type 0 where
+  pub things : Things d s.tree (most_hops s) claims
   -- the volume
   pub heavy : Any (λ w. 0 < w) s.weights
   pub some_brick : 0 < d.count

@@ -2,6 +2,7 @@ pub mod Disk
 pub mod Truth
 pub mod Views
 pub mod Shapes
+pub mod Claims
 pub mod Names
 pub mod Files
 pub mod Dirs
@@ -9,11 +10,16 @@ pub mod Locks
 pub mod Invariant
 pub mod Early
 pub mod Scene
-pub mod Turns
+pub mod Moves
+pub mod Acts
+pub mod FilePermits
+pub mod Permits
+pub mod Rely
+pub mod Stages
 pub mod Begins
 pub mod Replies
+pub mod MayAnswerLaws
 pub mod Section
 pub mod SectionLaws
-pub mod MayAnswerLaws
 pub mod Closing
 pub mod ClosingLaws

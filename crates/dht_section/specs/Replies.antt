@@ -1,16 +1,27 @@
 -- What a program reads in a reply.
-use Rattle.std.specs.Prelude.{Bool, true, false, Option, None}
+use Rattle.std.specs.Prelude.{Bool, true, false, Option, Some, None}
 use Rattle.dht_types.specs.declared.identifiers.Gfid.{Gfid}
+use Rattle.dht_types.specs.declared.errors.Errno.{Errno}
+use Rattle.dht_types.specs.declared.errors.Errno.TheVariants.{Enotconn, Eio, Enomem}
 use Rattle.dht_xattr.specs.declared.range.Range.{Range}
 use Rattle.dht_brick.specs.declared.replies.Given.TheVariants.{Look, Dirinfo}
 use Rattle.dht_brick.specs.declared.replies.Reply.{Reply}
-use Rattle.dht_brick.specs.declared.replies.Reply.TheVariants.{Ok as Carried, NoMemory}
+use Rattle.dht_brick.specs.declared.replies.Reply.TheVariants.{Ok as Carried, Refused as Declined, Down, Failed, NoMemory}
+use Rattle.dht_brick.specs.declared.replies.Why.TheVariants.{Nodir}
 use Rattle.dht_section.specs.Disk.{file_in, range_of_value}
 
--- the brick had no memory for the request
-abbrev pub is_no_memory : Reply → Bool
-is_no_memory NoMemory = true
-is_no_memory r = false
+-- the error that ends a call whose request was answered so, if it ends the call
+abbrev pub fault_of : Reply → Option Errno
+fault_of Down = Some Enotconn
+fault_of Failed = Some Eio
+fault_of NoMemory = Some Enomem
+fault_of r = None
+
+-- the brick showed what was asked for, or that it has no record of the directory
+abbrev pub is_shown : Reply → Bool
+is_shown (Carried given) = true
+is_shown (Declined Nodir) = true
+is_shown r = false
 
 -- the file that a look found at the name
 abbrev pub file_shown : Reply → Option Gfid

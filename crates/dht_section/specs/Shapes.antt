@@ -2,7 +2,7 @@
 -- invariant allows is a variant. A request takes one to another.
 use Rattle.std.specs.Prelude.{ℕ, Bool, true, false, ◌<◌, ◌≤◌, ◌≡◌, ◌≢◌, nat_eq, if◌then◌else◌, Option, Some, None, List}
 use Rattle.dht_types.specs.Gfid.{home}
-use Rattle.dht_types.specs.Tree.{Node, IsFile}
+use Rattle.dht_types.specs.Tree.{Node, IsFile, IsDir}
 use Rattle.dht_types.specs.declared.identifiers.Gfid.{Gfid}
 use Rattle.dht_types.specs.declared.identifiers.BrickNo.{BrickNo}
 use Rattle.dht_types.specs.declared.stored.Main.{Main}
@@ -74,13 +74,20 @@ NameFits count (Committed t f) = t < count
 -- what the tree has at a name in this shape
 abbrev pub node_of : NameShape → Option Node
 node_of Bare = None
-node_of (Folder g on) = None  -- until the tree says which names are directories
+node_of (Folder g on) = Some (IsDir g)
 node_of (Plain b f) = Some (IsFile f)
 node_of (Marked b f x) = Some (IsFile f)
 node_of (Contested b f x g) = Some (IsFile f)
 node_of (Standing x g) = Some (IsFile g)
 node_of (Copied b f t) = Some (IsFile f)
 node_of (Committed t f) = Some (IsFile f)
+
+-- what others may make of a name that I guard: they may finish a committed move, and heal a directory
+abbrev pub Grows : NameShape → NameShape → Type 0
+Grows (Folder g on) k =
+    (more : ℕ → Bool) × (k ≡ Folder g more) × ((b : ℕ) → on b ≡ true → more b ≡ true)
+Grows (Committed t f) k = (done : Bool) × (k ≡ (if done then Plain t f else Committed t f))
+Grows h k = k ≡ h
 
 -- how the records of a file stand on all bricks
 pub data FileShape : Type 0 where

@@ -1,7 +1,7 @@
 -- The truth of a name and of a file's bytes, told from all bricks, and that the bricks stand for a tree.
 use Rattle.std.specs.Prelude.{ℕ, ◌<◌, ◌≡◌, ◌≢◌, ◌⊎◌, true, is_some, Option, Some, None, List}
 use Rattle.dht_types.specs.Gfid.{Entry, home, anchor}
-use Rattle.dht_types.specs.Tree.{Tree, Node, IsFile}
+use Rattle.dht_types.specs.Tree.{Tree, Node, IsFile, IsDir}
 use Rattle.dht_types.specs.declared.identifiers.Gfid.{Gfid}
 use Rattle.dht_types.specs.declared.stored.Main.{Main}
 use Rattle.dht_types.specs.declared.stored.Main.TheVariants.{Dir, File}
@@ -51,6 +51,7 @@ standby_shows (Some (Copy f)) = Some (AFile f)
 abbrev pub meaning_of : Option Node → Option Meaning
 meaning_of None = None
 meaning_of (Some (IsFile f)) = Some (AFile f)
+meaning_of (Some (IsDir g)) = Some (ADirectory g)
 
 -- the truth of a name is this
 abbrev pub NameTruth : Disk → Entry → Option Node → Type 0

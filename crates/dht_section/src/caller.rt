@@ -1,13 +1,12 @@
 //! A client, as the world sees it: it has at most one running call, whatever the call's program is.
 
-ghost use Rattle.std.specs.Prelude.{◌≡◌, ◌<◌, ◌≤◌, ℕ, Bool, true, false, not, None, length, MatchOption};
+ghost use Rattle.std.specs.Prelude.{◌≡◌, ◌<◌, ◌≤◌, Bool, true, false, not, None, length};
+ghost use Rattle.dht_types.specs.Calls.{IsInRoot};
 ghost use Rattle.dht_types.specs.Cost.{cost};
 ghost use Rattle.dht_types.specs.declared.identifiers.ClientNo.{ClientNo};
-ghost use Rattle.dht_section.specs.declared.machine.Ask.{Ask};
-ghost use Rattle.dht_section.specs.Scene.{Scene, Sound, Permitted, Rely};
-ghost use Rattle.dht_section.specs.Turns.{CallMoves};
 ghost use Rattle.dht_section.specs.Begins.{Begins};
-ghost use Rattle.dht_types.specs.Calls.{IsInRoot};
+ghost use Rattle.dht_section.specs.Scene.{Scene};
+ghost use Rattle.dht_section.specs.Stages.{Stage, CallMoves, MaySend, IsStable};
 
 use super::machine::{Ask, Finish};
 use dht_brick::replies::Reply;
@@ -23,14 +22,8 @@ pub trait Caller: Sized {
     /// Whether a call of it is running.
     ghost is_busy: { Self → Bool };
 
-    /// The request that its call sends next.
-    ghost asks: { Self → Ask };
-
-    /// What its call knows of the scene between its requests.
-    ghost knows: { Self → Scene → Type 0 };
-
-    /// How many requests its call still sends at most.
-    ghost variant: { Self → ℕ };
+    /// Where its call is between its requests.
+    ghost stage: { Self → Stage };
 
     /// Whether no call of it is running.
     fn is_idle(&self) -> bool
@@ -43,29 +36,29 @@ pub trait Caller: Sized {
         requires root { IsInRoot what.now }
         ensures busy { is_busy self.new ≡ true }
         ensures number { number self.new ≡ number self.old }
+        ensures copy { (stage self.new).claims.copy ≡ None }
         ensures knows { (s : Scene) → Begins (number self.old) weights.now run call what.now s
-            → knows self.new s }
-        ensures variant { variant self.new ≤ cost (length weights.now) what.now };
+            → (stage self.new).knows s }
+        ensures variant { (stage self.new).variant ≤ cost (length weights.now) what.now };
 
     /// The request that its call sends next.
     fn next(&self) -> Ask
         requires { is_busy self.now ≡ true }
-        ensures { result ≡ asks self.now };
+        ensures { result ≡ (stage self.now).asks };
 
     /// Takes the reply to its request; `at` is the number of the line on which the call's last line
     /// stands. It gives what the call answers, if the call is finished.
     fn take(&mut self, reply: Reply, at: u64) -> Option<Finish>
         requires { is_busy self.old ≡ true }
         ensures number { number self.new ≡ number self.old }
-        ensures moves { CallMoves is_busy asks knows variant self.old self.new reply at result };
+        ensures moves { CallMoves is_busy stage self.old self.new reply at result };
 
     /// Its call may send its request in every sound scene of which its knowledge holds.
-    ghost permitted: { (c : Self) (s : Scene) → Sound s → is_busy c ≡ true → knows c s
-        → Permitted s (asks c) };
+    ghost permitted: { (c : Self) → is_busy c ≡ true → MaySend (stage c) };
 
     /// What others may do leaves its knowledge true.
-    ghost stable: { (c : Self) (s t : Scene) → knows c s → Rely s t → knows c t };
+    ghost stable: { (c : Self) → IsStable (stage c) };
 
     /// A running call sends another request.
-    ghost goes_on: { (c : Self) → is_busy c ≡ true → 0 < variant c };
+    ghost goes_on: { (c : Self) → is_busy c ≡ true → 0 < (stage c).variant };
 }

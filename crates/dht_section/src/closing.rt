@@ -1,10 +1,11 @@
 //! The closing: the end of a call that took locks. They are given back, and then the call answers.
 
-ghost use Rattle.std.specs.Prelude.{◌≡◌, ◌<◌, ℕ, [], None};
+ghost use Rattle.std.specs.Prelude.{◌≡◌, ◌≤◌};
 ghost use Rattle.dht_section.specs.Scene.{Scene, MayAnswer};
-ghost use Rattle.dht_section.specs.Turns.{Moves};
-ghost use Rattle.dht_section.specs.Section.{lock_brick, LocksFollow, stopped_locks, stopped_location, both_locks, HasPlace};
-ghost use Rattle.dht_section.specs.Closing.{closing_asks, closing_variant, closing_locks, closing_finish, ClosingKnows, KeepsFinish, out_of_memory};
+ghost use Rattle.dht_section.specs.Stages.{Moves, answered};
+ghost use Rattle.dht_section.specs.Section.{both_claimed, HasPlace, fault_finish, outcome_ending, stopped_errno};
+ghost use Rattle.dht_section.specs.declared.section.SectionOutcome.TheVariants.{Stopped as Stopping};
+ghost use Rattle.dht_section.specs.Closing.{closing_stage, closing_finish, KeepsFinish};
 ghost use Rattle.dht_section.specs.ClosingLaws.{closing_permitted, closing_stable};
 
 use super::machine::{Ask, Finish, Machine, Turn};
@@ -24,12 +25,12 @@ pub enum Closing {
     UnlockingDirectory(Location, Finish),
 }
 
-/// The answer of a call that was stopped because memory ran out. It holds at no line.
-pub fn out_of_memory() -> Finish
-    ensures { result ≡ out_of_memory }
+/// The answer of a call that was stopped by this error. It holds at no line.
+pub fn fault_finish(errno: Errno) -> Finish
+    ensures { result ≡ fault_finish errno }
 {
     Finish {
-        answer: Answer::Fault(Errno::Enomem),
+        answer: Answer::Fault(errno),
         at: None,
     }
 }
@@ -38,25 +39,30 @@ impl Closing {
     /// Gives both locks back, and answers so.
     pub fn new(location: Location, finish: Finish) -> Closing
         ensures knows { (s : Scene) → HasPlace location s → MayAnswer finish s
-            → ClosingKnows result s }
+            → (closing_stage result).knows s }
+        ensures claims { (closing_stage result).claims ≡ both_claimed location }
         ensures finish { closing_finish result ≡ finish }
-        ensures locks { closing_locks result ≡ both_locks location }
+        ensures variant { (closing_stage result).variant ≤ 2 }
     {
         Closing::UnlockingName(location, finish)
     }
 
-    /// Gives back what a section that was stopped asked for, and answers so.
+    /// Gives back what a section that was stopped asked for, and answers with its error.
     pub fn of_stopped(stopped: Stopped) -> Closing
-        ensures knows { (s : Scene) → HasPlace (stopped_location stopped) s
-            → ClosingKnows result s }
-        ensures finish { closing_finish result ≡ out_of_memory }
-        ensures locks { closing_locks result ≡ stopped_locks stopped }
+        ensures knows { (s : Scene) → (outcome_ending (Stopping stopped)).earned s
+            → (closing_stage result).knows s }
+        ensures claims { (closing_stage result).claims
+            ≡ (outcome_ending (Stopping stopped)).claims }
+        ensures finish { closing_finish result ≡ fault_finish (stopped_errno stopped) }
+        ensures variant { (closing_stage result).variant ≤ 2 }
     {
         match stopped {
-            Stopped::Directory(location) => {
-                Closing::UnlockingDirectory(location, out_of_memory())
+            Stopped::Directory(location, errno) => {
+                Closing::UnlockingDirectory(location, fault_finish(errno))
             }
-            Stopped::Both(location) => Closing::UnlockingName(location, out_of_memory()),
+            Stopped::Both(location, errno) => {
+                Closing::UnlockingName(location, fault_finish(errno))
+            }
         }
     }
 }
@@ -64,13 +70,9 @@ impl Closing {
 impl Machine for Closing {
     type Done = Finish;
 
-    ghost asks = { closing_asks };
+    ghost stage = { closing_stage };
 
-    ghost knows = { ClosingKnows };
-
-    ghost variant = { closing_variant };
-
-    ghost earned = { MayAnswer };
+    ghost ending = { answered };
 
     fn next(&self) -> Ask {
         match self {
@@ -86,11 +88,8 @@ impl Machine for Closing {
     }
 
     fn take(self, reply: Reply, at: u64) -> Turn<Closing, Finish>
-        ensures moves { Moves closing_asks ClosingKnows closing_variant MayAnswer
-            self reply at result }
+        ensures moves { Moves closing_stage answered self reply at result }
         ensures finish { KeepsFinish self result }
-        ensures locks { LocksFollow closing_locks (λ f. []) self
-            (closing_asks self).request result }
     {
         match self {
             Closing::UnlockingName(location, finish) => {

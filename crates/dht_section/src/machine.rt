@@ -2,10 +2,8 @@
 //! between its requests, and its laws that it may send each request and that nobody else's request
 //! makes what it knows false.
 
-ghost use Rattle.std.specs.Prelude.{◌≡◌, ◌<◌, ℕ};
-ghost use Rattle.dht_section.specs.declared.machine.Ask.{Ask as AnAsk};
-ghost use Rattle.dht_section.specs.Turns.{Moves};
-ghost use Rattle.dht_section.specs.Scene.{Scene, Sound, Permitted, Rely};
+ghost use Rattle.std.specs.Prelude.{◌≡◌};
+ghost use Rattle.dht_section.specs.Stages.{Stage, Ending, Moves, MaySend, IsStable};
 
 use dht_brick::replies::Reply;
 use dht_brick::requests::Request;
@@ -39,29 +37,24 @@ pub trait Machine: Sized {
     /// What it hands out when it is done.
     type Done;
 
-    /// The request that it sends next.
-    ghost asks: { Self → AnAsk };
+    /// Where it is between its requests: the request that it sends next, what it claims, how many
+    /// requests it still sends at most, and what it knows of the scene.
+    ghost stage: { Self → Stage };
 
-    /// What it knows of the scene between its requests.
-    ghost knows: { Self → Scene → Type 0 };
-
-    /// How many requests it still sends at most.
-    ghost variant: { Self → ℕ };
-
-    /// What is true of the scene when it hands this out.
-    ghost earned: { Self.Done → Scene → Type 0 };
+    /// What it still claims when it hands this out, and what is true of the scene then.
+    ghost ending: { Self.Done → Ending };
 
     /// The request that it sends next.
     fn next(&self) -> Ask
-        ensures { result ≡ asks self.now };
+        ensures { result ≡ (stage self.now).asks };
 
     /// Takes the reply to its request.
     fn take(self, reply: Reply, at: u64) -> Turn<Self, Self::Done>
-        ensures moves { Moves asks knows variant earned self reply at result };
+        ensures moves { Moves stage ending self reply at result };
 
     /// It may send its request in every sound scene of which its knowledge holds.
-    ghost permitted: { (m : Self) (s : Scene) → Sound s → knows m s → Permitted s (asks m) };
+    ghost permitted: { (m : Self) → MaySend (stage m) };
 
     /// What others may do leaves its knowledge true.
-    ghost stable: { (m : Self) (s t : Scene) → knows m s → Rely s t → knows m t };
+    ghost stable: { (m : Self) → IsStable (stage m) };
 }

@@ -1,21 +1,54 @@
 //! What a program reads in a reply.
 
 ghost use Rattle.std.specs.Prelude.{◌≡◌};
-ghost use Rattle.dht_section.specs.Replies.{is_no_memory, file_shown, range_shown};
+ghost use Rattle.dht_brick.specs.Kinds.{reply_kind};
+ghost use Rattle.dht_types.specs.History.{is_carried};
+ghost use Rattle.dht_section.specs.Replies.{fault_of, is_shown, file_shown, range_shown};
 ghost use Rattle.dht_section.specs.Disk.{file_of_main, range_of_value};
 
-use dht_brick::replies::{Given, Reply};
+use dht_brick::replies::{Given, Reply, Why};
 use dht_types::bytes::Bytes;
+use dht_types::errors::Errno;
 use dht_types::identifiers::Gfid;
 use dht_types::stored::Main;
 use dht_xattr::range::{Range, decode};
 
-/// Whether the brick had no memory for the request.
-pub fn is_no_memory(reply: &Reply) -> bool
-    ensures { result ≡ is_no_memory reply.now }
+/// The error that ends a call whose request was answered so, if it ends the call: the brick was
+/// down, failed, or had no memory for the request.
+pub fn fault_of(reply: &Reply) -> Option<Errno>
+    ensures { result ≡ fault_of reply.now }
 {
     match reply {
-        Reply::NoMemory => true,
+        Reply::Ok(_) => None,
+        Reply::Refused(_) => None,
+        Reply::Wait(_) => None,
+        Reply::Down => Some(Errno::Enotconn),
+        Reply::Failed => Some(Errno::Eio),
+        Reply::NoMemory => Some(Errno::Enomem),
+    }
+}
+
+/// Whether the request was carried out.
+pub fn is_carried(reply: &Reply) -> bool
+    ensures { result ≡ is_carried (reply_kind reply.now) }
+{
+    match reply {
+        Reply::Ok(_) => true,
+        Reply::Refused(_) => false,
+        Reply::Wait(_) => false,
+        Reply::Down => false,
+        Reply::Failed => false,
+        Reply::NoMemory => false,
+    }
+}
+
+/// Whether the brick showed what was asked for, or that it has no record of the directory.
+pub fn is_shown(reply: &Reply) -> bool
+    ensures { result ≡ is_shown reply.now }
+{
+    match reply {
+        Reply::Ok(_) => true,
+        Reply::Refused(Why::Nodir) => true,
         _ => false,
     }
 }

@@ -1,17 +1,22 @@
 //! The section: the guarded part of a call. It takes the locks of a directory and of a name in it,
 //! and then looks for the name on every brick.
 
-ghost use Rattle.std.specs.Prelude.{◌≡◌, ◌<◌, ℕ, false, [], None, option_map};
-ghost use Rattle.dht_section.specs.Scene.{Scene};
-ghost use Rattle.dht_section.specs.Turns.{Moves};
-ghost use Rattle.dht_section.specs.Section.{lock_brick, found_then, lengthened, seen, nothing_seen, held_holder, section_asks, section_variant, section_location, section_locks, section_stopped, section_taught, SectionKnows, OutcomeFact, outcome_location, outcome_locks, is_stopped, KeepsLocation, LocksFollow, StopsByMemory, HasPlace};
+ghost use Rattle.std.specs.Prelude.{◌≡◌, None, option_map};
+ghost use Rattle.dht_section.specs.Disk.{holder_of};
+ghost use Rattle.dht_section.specs.Rely.{Rely};
+ghost use Rattle.dht_section.specs.Scene.{Scene, Sound};
+ghost use Rattle.dht_section.specs.declared.section.Held.{Held as AHeld};
+ghost use Rattle.dht_section.specs.Stages.{Moves};
+ghost use Rattle.dht_section.specs.declared.section.Section.TheVariants.{LockingDirectory};
+ghost use Rattle.dht_section.specs.Section.{entry_at, IsHeld, lock_brick, found_then, lengthened, seen, nothing_seen, held_holder, section_stage, section_location, section_again, section_stopped, outcome_ending, outcome_location, stopped_errno, KeepsLocation, StopsByFault, HandsLayout, IsFresh};
 ghost use Rattle.dht_section.specs.SectionLaws.{section_permitted, section_stable};
 
 use super::machine::{Ask, Machine, Turn};
-use super::replies::{file_shown, is_no_memory, range_shown};
+use super::replies::{fault_of, file_shown, is_carried, is_shown, range_shown};
 use dht_brick::replies::Reply;
 use dht_brick::requests::{NameRequest, Request};
 use dht_hash::dm_hash;
+use dht_types::errors::Errno;
 use dht_types::identifiers::{BrickNo, Gfid};
 use dht_types::locks::{Key, Mode};
 use dht_types::names::Name;
@@ -66,7 +71,8 @@ pub struct Seen {
     pub layout: Layout,
 }
 
-/// Both locks are held, and all bricks were looked at.
+/// Both locks are held, and all bricks were looked at. As long as the locks are held, the name
+/// stands so.
 #[derive(Clone, Copy)]
 pub struct Held {
     pub location: Location,
@@ -78,11 +84,14 @@ pub struct Held {
     pub at: u64,
 }
 
-/// A brick had no memory for a request of the section. These locks were asked for.
+/// A request of the section was not served: what the section asked for, and the error that the call
+/// answers.
 #[derive(Clone, Copy)]
 pub enum Stopped {
-    Directory(Location),
-    Both(Location),
+    /// It asked for the directory's lock.
+    Directory(Location, Errno),
+    /// It asked for both locks.
+    Both(Location, Errno),
 }
 
 /// How a section ends.
@@ -137,8 +146,8 @@ impl Seen {
 }
 
 impl Held {
-    /// The brick that holds the name: the first whose range contains the name's hash. None where the
-    /// layout has a hole there.
+    /// The brick that holds the name: the first whose range contains the name's hash. None where
+    /// the layout has a hole there.
     pub fn holder(&self) -> Option<BrickNo>
         ensures { option_map (λ b. b.0) result ≡ held_holder self.now }
     {
@@ -146,43 +155,54 @@ impl Held {
     }
 }
 
+/// A section that is held stays so whatever others do, and its layout names the holder of the name:
+/// these are laws for callers, and do nothing.
+pub fn a_held_section_stays()
+    ensures stays { (h : AHeld) (s t : Scene) → IsHeld h s → Rely s t → IsHeld h t }
+    ensures holder { (h : AHeld) (s : Scene) → Sound s → IsHeld h s
+        → held_holder h ≡ holder_of s.disk (entry_at h.location) }
+{}
+
+impl Stopped {
+    /// The error that the call answers.
+    pub fn errno(&self) -> Errno
+        ensures { result ≡ stopped_errno self.now }
+    {
+        match self {
+            Stopped::Directory(_, errno) => *errno,
+            Stopped::Both(_, errno) => *errno,
+        }
+    }
+}
+
 impl Section {
     /// The section of a name.
     pub fn new(location: Location) -> Section
-        ensures knows { (s : Scene) → HasPlace location s → s.mine.deeds ≡ None
-            → SectionKnows result s }
-        ensures location { section_location result ≡ location }
-        ensures locks { section_locks result ≡ [] }
+        ensures knows { (s : Scene) → IsFresh location s → (section_stage result).knows s }
+        ensures first { result ≡ LockingDirectory location }
     {
         Section::LockingDirectory(location)
     }
 
-    /// What is left of it where its request finds no memory.
-    fn stopped(&self) -> Stopped
-        ensures { result ≡ section_stopped self.now }
+    /// Whether its request is to be sent again: another client holds the lock.
+    fn asks_again(&self, reply: &Reply) -> bool
+        ensures { result ≡ section_again self.now reply.now }
     {
         match self {
-            Section::LockingDirectory(location) => Stopped::Directory(*location),
-            Section::LockingName(location) => Stopped::Both(*location),
-            Section::Looking(location, _, _) => Stopped::Both(*location),
+            Section::LockingDirectory(_) => !is_carried(reply),
+            Section::LockingName(_) => !is_carried(reply),
+            Section::Looking(_, _, _) => !is_shown(reply),
         }
     }
 
-    /// The layout of the directory, where this reply to its request is the last look's.
-    pub fn taught(&self, reply: &Reply) -> Option<Layout>
-        ensures { result ≡ section_taught self.now reply.now }
+    /// What is left of it where its request was not served.
+    fn stopped(&self, errno: Errno) -> Stopped
+        ensures { result ≡ section_stopped self.now errno }
     {
         match self {
-            Section::LockingDirectory(_) => None,
-            Section::LockingName(_) => None,
-            Section::Looking(location, brick, seen) => {
-                let is_last = location.bricks.saturating_sub(brick.0) <= 1;
-                if is_last && !is_no_memory(reply) {
-                    Some(lengthen(seen.layout, range_shown(reply)))
-                } else {
-                    None
-                }
-            }
+            Section::LockingDirectory(location) => Stopped::Directory(*location, errno),
+            Section::LockingName(location) => Stopped::Both(*location, errno),
+            Section::Looking(location, _, _) => Stopped::Both(*location, errno),
         }
     }
 }
@@ -190,13 +210,9 @@ impl Section {
 impl Machine for Section {
     type Done = SectionOutcome;
 
-    ghost asks = { section_asks };
+    ghost stage = { section_stage };
 
-    ghost knows = { SectionKnows };
-
-    ghost variant = { section_variant };
-
-    ghost earned = { OutcomeFact };
+    ghost ending = { outcome_ending };
 
     fn next(&self) -> Ask {
         match self {
@@ -219,16 +235,18 @@ impl Machine for Section {
     }
 
     fn take(self, reply: Reply, at: u64) -> Turn<Section, SectionOutcome>
-        ensures moves { Moves section_asks SectionKnows section_variant OutcomeFact
-            self reply at result }
+        ensures moves { Moves section_stage outcome_ending self reply at result }
         ensures location { KeepsLocation self result }
-        ensures locks { LocksFollow section_locks outcome_locks self
-            (section_asks self).request result }
-        // it is stopped exactly where memory ran out
-        ensures memory { StopsByMemory reply result }
+        // it is stopped exactly where its request was not served
+        ensures fault { StopsByFault reply result }
+        // what it read of the layout, it hands out
+        ensures layout { HandsLayout self reply result }
     {
-        if is_no_memory(&reply) {
-            return Turn::Done(SectionOutcome::Stopped(self.stopped()));
+        if let Some(errno) = fault_of(&reply) {
+            return Turn::Done(SectionOutcome::Stopped(self.stopped(errno)));
+        }
+        if self.asks_again(&reply) {
+            return Turn::Go(self);
         }
         match self {
             Section::LockingDirectory(location) => Turn::Go(Section::LockingName(location)),

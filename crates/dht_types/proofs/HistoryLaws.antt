@@ -5,7 +5,7 @@ use Rattle.dht_types.proofs.PutLaws.{put_same, put_other, exact_nat}
 use Rattle.dht_types.specs.History.{History, Owed, with_step, tells, with_line, with_lines, start, history_of, LegalFrom}
 use Rattle.dht_types.specs.declared.calls.TreeStep.{TreeStep}
 use Rattle.dht_types.specs.declared.lines.Line.{Line}
-use Rattle.dht_types.specs.declared.lines.Line.TheVariants.{Volume, Called, Stepped, Tree as Changed, Answered, Refused}
+use Rattle.dht_types.specs.declared.lines.Line.TheVariants.{Volume, Called, Stepped, Waited, Tree as Changed, Answered, WentDown, CameUp, Died, Refused}
 
 pub lines_more : (s : History) (xs : List Line) (x : Line) → with_lines s (xs ++ x ∷ []) ≡ with_line (with_lines s xs) x
 lines_more s [] x = refl
@@ -42,6 +42,10 @@ pub run_with_line : (s : History) (x : Line) → (with_line s x).run ≡ s.run
 run_with_line s (Volume w) = refl
 run_with_line s (Called k c call) = refl
 run_with_line s (Stepped k c b q r) = refl
+run_with_line s (Waited k c b h) = refl
 run_with_line s (Changed k step) = step_run s step s.owed
 run_with_line s (Answered k c j a) = refl
+run_with_line s (WentDown b) = refl
+run_with_line s (CameUp b) = refl
+run_with_line s (Died c) = refl
 run_with_line s (Refused n cause) = refl

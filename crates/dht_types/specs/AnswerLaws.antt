@@ -1,13 +1,13 @@
 -- How long an answer stays right.
-use Rattle.std.proofs.Common.{◌≡◌, ◌≤◌, ℕ, sym, ◌∙◌, ap, subst, arith}
+use Rattle.std.proofs.Common.{◌≡◌, ◌≤◌, ℕ, true, sym, ◌∙◌, ap, subst, arith}
 use Rattle.std.specs.Prelude.{Option, Some, None}
 use Rattle.dht_types.specs.Tree.{Tree, says, answer_of}
 use Rattle.dht_types.specs.History.{History, PendingCall, Deeds, Tells, HasPoint, Answers, FaultHolds}
 use Rattle.dht_types.specs.declared.calls.Call.{Call}
 use Rattle.dht_types.specs.declared.calls.Answer.{Answer}
-use Rattle.dht_types.specs.declared.calls.Answer.TheVariants.{File, Made, Fault}
+use Rattle.dht_types.specs.declared.calls.Answer.TheVariants.{File, Dir, Made, Fault}
 use Rattle.dht_types.specs.declared.errors.Errno.{Errno}
-use Rattle.dht_types.specs.declared.errors.Errno.TheVariants.{Enoent, Enomem, Eexist, Einval, Enametoolong, Estale}
+use Rattle.dht_types.specs.declared.errors.Errno.TheVariants.{Enoent, Enomem, Eexist, Einval, Enametoolong, Estale, Enotconn, Eio}
 
 tells_at : (s t : History) (call : Call) (deeds : Option Deeds) (j : ℕ) (a : Answer) → t.past j ≡ s.past j → Tells s call deeds j a → Tells t call deeds j a
 tells_at s t call None j a e h = λ g. ap (λ (p : Tree). answer_of (says p call g)) e ∙ h g
@@ -18,6 +18,8 @@ pub record Continues (s t : History) (x y : PendingCall) : Type 0 where
   pub since : y.since ≡ x.since
   pub call : y.call ≡ x.call
   pub deeds : y.deeds ≡ x.deeds
+  pub told_down : x.was_down ≡ true → y.was_down ≡ true
+  pub told_failed : x.has_failed ≡ true → y.has_failed ≡ true
   pub later : s.size ≤ t.size
   pub past : (j : ℕ) → j ≤ s.size → t.past j ≡ s.past j
 
@@ -39,11 +41,14 @@ fault_kept : (s t : History) (x y : PendingCall) (at : Option ℕ) (e : Errno) �
 fault_kept s t x y at Enoent g h = point_kept s t x y at _ g h
 fault_kept s t x y at Enomem g h = h
 fault_kept s t x y at Eexist g h = point_kept s t x y at _ g h
+fault_kept s t x y at Enotconn g h = (h.0, g.told_down h.1)
+fault_kept s t x y at Eio g h = (h.0, g.told_failed h.1)
 fault_kept s t x y at Einval g h = h
 fault_kept s t x y at Enametoolong g h = h
 fault_kept s t x y at Estale g h = point_kept s t x y at _ g h
 
 pub answers_kept : (s t : History) (x y : PendingCall) (at : Option ℕ) (a : Answer) → Continues s t x y → Answers s x at a → Answers t y at a
 answers_kept s t x y at (File f) g h = point_kept s t x y at _ g h
+answers_kept s t x y at (Dir k) g h = point_kept s t x y at _ g h
 answers_kept s t x y at (Made f) g h = point_kept s t x y at _ g h
 answers_kept s t x y at (Fault e) g h = fault_kept s t x y at e g h

@@ -1,5 +1,5 @@
 -- What the lines of a transcript tell, and when a transcript is legal. Nothing here speaks of bricks' contents or of programs.
-use Rattle.std.specs.Prelude.{ℕ, ◌+◌, ◌^◌, ◌<◌, ◌≤◌, ◌≡◌, nat_eq, Bool, true, false, Option, Some, None, List, [], ◌∷◌, ◌++◌}
+use Rattle.std.specs.Prelude.{ℕ, ◌+◌, ◌^◌, ◌<◌, ◌≤◌, ◌≡◌, ◌||◌, ◌&&◌, if◌then◌else◌, nat_eq, Bool, true, false, not, Option, Some, None, List, [], ◌∷◌, ◌++◌}
 use Rattle.dht_types.specs.Put.{put}
 use Rattle.dht_types.specs.Gfid.{Entry, made}
 use Rattle.dht_types.specs.Tree.{Tree, first_tree, applied, Fits, Said, Do, says, answer_of}
@@ -7,18 +7,18 @@ use Rattle.dht_types.specs.declared.identifiers.Gfid.{Gfid}
 use Rattle.dht_types.specs.declared.identifiers.CallNo.{CallNo}
 use Rattle.dht_types.specs.declared.identifiers.ClientNo.{ClientNo}
 use Rattle.dht_types.specs.declared.errors.Errno.{Errno}
-use Rattle.dht_types.specs.declared.errors.Errno.TheVariants.{Enoent, Enomem, Eexist, Einval, Enametoolong, Estale}
+use Rattle.dht_types.specs.declared.errors.Errno.TheVariants.{Enoent, Enomem, Eexist, Einval, Enametoolong, Estale, Enotconn, Eio}
 use Rattle.dht_types.specs.declared.calls.Call.{Call}
 use Rattle.dht_types.specs.declared.calls.Answer.{Answer}
-use Rattle.dht_types.specs.declared.calls.Answer.TheVariants.{File, Made, Fault}
+use Rattle.dht_types.specs.declared.calls.Answer.TheVariants.{File, Dir, Made, Fault}
 use Rattle.dht_types.specs.declared.calls.TreeStep.{TreeStep}
 use Rattle.dht_types.specs.declared.calls.TreeStep.TheVariants.{AddFile}
 use Rattle.dht_types.specs.declared.lines.RequestKind.{RequestKind}
-use Rattle.dht_types.specs.declared.lines.RequestKind.TheVariants.{Create}
+use Rattle.dht_types.specs.declared.lines.RequestKind.TheVariants.{Lock, Create}
 use Rattle.dht_types.specs.declared.lines.ReplyKind.{ReplyKind}
-use Rattle.dht_types.specs.declared.lines.ReplyKind.TheVariants.{Ok as Carried}
+use Rattle.dht_types.specs.declared.lines.ReplyKind.TheVariants.{Ok as Carried, Refused as Denied, Wait, Down, Failed, NoMemory}
 use Rattle.dht_types.specs.declared.lines.Line.{Line}
-use Rattle.dht_types.specs.declared.lines.Line.TheVariants.{Volume, Called, Stepped, Tree as Changed, Answered, Refused}
+use Rattle.dht_types.specs.declared.lines.Line.TheVariants.{Volume, Called, Stepped, Waited, Tree as Changed, Answered, WentDown, CameUp, Died, Refused}
 
 -- a tree line of a call
 pub record Deed : Type 0 where
@@ -36,10 +36,13 @@ pub record PendingCall : Type 0 where
   pub number : CallNo
   pub call : Call
   pub since : ℕ  -- its call line
+  pub alone : Bool  -- no other call was running when it began
   pub steps : ℕ  -- how many step lines it has
+  pub was_down : Bool  -- one of them says that its brick was down
+  pub has_failed : Bool  -- one of them says that its brick failed
   pub deeds : Option Deeds
 
--- what a step line tells of its brick
+-- what a step or wait line tells of its brick
 pub record Act : Type 0 where
   pub client : ClientNo
   pub call : CallNo
@@ -62,7 +65,12 @@ pub record History : Type 0 where
   pub tree : Tree  -- the tree now
   pub past : ℕ → Tree  -- the tree after that many lines
   pub pending : ℕ → Option PendingCall  -- each client's call
-  pub acts : ℕ → List Act  -- each brick's step lines
+  pub callers : List ℕ  -- the clients that have one
+  pub dead : ℕ → Bool  -- which clients have died
+  pub down : ℕ → Bool  -- which bricks are down
+  pub clean : Bool  -- no line tells of a brick that was down or out of memory, or of a death
+  pub requests : ℕ  -- how many step and wait lines
+  pub acts : ℕ → List Act  -- what each brick served, by its step and wait lines
   pub changes : ℕ → List Entry  -- the slots of the tree lines under them
   pub owed : Option Owed
 
@@ -98,14 +106,41 @@ abbrev pub owed_after : Line → Option Owed
 owed_after (Stepped k c b q r) = owed_if (is_change q r) (record { call = k; client = c; brick = b.0; request = q })
 owed_after line = None
 
--- a call that was accepted at this line
-abbrev pub accepted : ℕ → CallNo → Call → PendingCall
-accepted line k call = record { number = k; call = call; since = line; steps = 0; deeds = None }
+-- the brick was down
+abbrev pub is_down : ReplyKind → Bool
+is_down Down = true
+is_down r = false
 
--- a pending call with one more step line, or with the tree line of this step at this line
-abbrev pub stepped : Option PendingCall → Option PendingCall
-stepped None = None
-stepped (Some r) = Some (record r { steps = r.steps + 1 })
+-- the brick failed
+abbrev pub is_failed : ReplyKind → Bool
+is_failed Failed = true
+is_failed r = false
+
+-- the brick did as it should: it was up and had memory
+abbrev pub is_sound : ReplyKind → Bool
+is_sound Down = false
+is_sound Failed = false
+is_sound NoMemory = false
+is_sound r = true
+
+-- the answer tells of memory that ran out
+abbrev pub is_enomem : Answer → Bool
+is_enomem (Fault Enomem) = true
+is_enomem a = false
+
+-- no client is listed
+abbrev pub is_empty : List ℕ → Bool
+is_empty [] = true
+is_empty (x ∷ xs) = false
+
+-- a call that was accepted at this line, while these clients had one
+abbrev pub accepted : List ℕ → ℕ → CallNo → Call → PendingCall
+accepted callers line k call = record { number = k; call = call; since = line; alone = is_empty callers; steps = 0; was_down = false; has_failed = false; deeds = None }
+
+-- a pending call with one more step line of this reply, or with the tree line of this step at this line
+abbrev pub stepped : ReplyKind → Option PendingCall → Option PendingCall
+stepped q None = None
+stepped q (Some r) = Some (record r { steps = r.steps + 1; was_down = r.was_down || is_down q; has_failed = r.has_failed || is_failed q })
 
 abbrev pub did : Tree → ℕ → TreeStep → Option PendingCall → Option PendingCall
 did t line step None = None
@@ -120,19 +155,47 @@ with_step s step (Some o) = record s {
   changes = put nat_eq s.changes o.brick (s.changes o.brick ++ slot_of step ∷ []);
 }
 
+-- the clients without this one
+abbrev pub without : ℕ → List ℕ → List ℕ
+without c [] = []
+without c (x ∷ xs) = if nat_eq x c then without c xs else x ∷ without c xs
+
+-- what a brick served, with one act more; a brick that is down serves nothing
+abbrev pub acts_after : List Act → Act → List Act
+acts_after acts x = if is_down x.reply then acts else acts ++ x ∷ []
+
 -- what each kind of line changes
 abbrev pub tells : History → Line → History
 tells s (Volume w) = record s { weights = w }
 tells s (Called k c call) = record s {
   calls = s.calls + 1;
-  pending = put nat_eq s.pending c.0 (Some (accepted (s.size + 1) k call));
+  pending = put nat_eq s.pending c.0 (Some (accepted s.callers (s.size + 1) k call));
+  callers = c.0 ∷ s.callers;
 }
 tells s (Stepped k c b q r) = record s {
-  pending = put nat_eq s.pending c.0 (stepped (s.pending c.0));
-  acts = put nat_eq s.acts b.0 (s.acts b.0 ++ record { client = c; call = k; request = q; reply = r } ∷ []);
+  pending = put nat_eq s.pending c.0 (stepped r (s.pending c.0));
+  clean = s.clean && is_sound r;
+  requests = s.requests + 1;
+  acts = put nat_eq s.acts b.0 (acts_after (s.acts b.0) (record { client = c; call = k; request = q; reply = r }));
+}
+tells s (Waited k c b h) = record s {
+  requests = s.requests + 1;
+  acts = put nat_eq s.acts b.0 (acts_after (s.acts b.0) (record { client = c; call = k; request = Lock; reply = Wait }));
 }
 tells s (Changed k step) = with_step s step s.owed
-tells s (Answered k c j a) = record s { pending = put nat_eq s.pending c.0 None }
+tells s (Answered k c j a) = record s {
+  pending = put nat_eq s.pending c.0 None;
+  callers = without c.0 s.callers;
+  clean = s.clean && not (is_enomem a);
+}
+tells s (WentDown b) = record s { down = put nat_eq s.down b.0 true; clean = false }
+tells s (CameUp b) = record s { down = put nat_eq s.down b.0 false }
+tells s (Died c) = record s {
+  pending = put nat_eq s.pending c.0 None;
+  callers = without c.0 s.callers;
+  dead = put nat_eq s.dead c.0 true;
+  clean = false;
+}
 tells s (Refused n cause) = s
 
 -- the history with one more line: what the line changes; and every line is counted, and leaves its tree behind
@@ -153,6 +216,11 @@ start = record {
   tree = first_tree;
   past = λ j. first_tree;
   pending = λ c. None;
+  callers = [];
+  dead = λ c. false;
+  down = λ b. false;
+  clean = true;
+  requests = 0;
   acts = λ b. [];
   changes = λ b. [];
   owed = None;
@@ -205,17 +273,26 @@ pub record HasPoint (s : History) (r : PendingCall) (at : Option ℕ) (a : Answe
   pub before : point ≤ s.size
   pub tells : Tells s r.call r.deeds point a
 
--- memory that ran out is free and has no point; the call has then done the first of its steps, or some, or none
+-- the call was the only one in its span so far, and no line tells of a fault
+pub record IsUndisturbed (s : History) (r : PendingCall) : Type 0 where
+  pub first : r.alone ≡ true
+  pub last : r.number.0 ≡ s.calls
+  pub clean : s.clean ≡ true
+
+-- memory that ran out is free and has no point; the call has then done the first of its steps, or some, or none. So has a call that ended because a brick was down, or failed
 abbrev pub FaultHolds : History → PendingCall → Option ℕ → Errno → Type 0
 FaultHolds s r at Enomem = at ≡ None
 FaultHolds s r at Enoent = HasPoint s r at (Fault Enoent)
 FaultHolds s r at Eexist = HasPoint s r at (Fault Eexist)
 FaultHolds s r at Estale = HasPoint s r at (Fault Estale)
+FaultHolds s r at Enotconn = (at ≡ None) × (r.was_down ≡ true)
+FaultHolds s r at Eio = (at ≡ None) × (r.has_failed ≡ true)
 FaultHolds s r at Einval = ⊥
 FaultHolds s r at Enametoolong = ⊥
 
 abbrev pub Answers : History → PendingCall → Option ℕ → Answer → Type 0
 Answers s r at (File f) = HasPoint s r at (File f)
+Answers s r at (Dir g) = HasPoint s r at (Dir g)
 Answers s r at (Made f) = HasPoint s r at (Made f)
 Answers s r at (Fault e) = FaultHolds s r at e
 
@@ -226,10 +303,15 @@ Follows s (Volume w) = s.size ≡ 0
 -- no line comes between a request and its tree line; calls are numbered, and a client that is busy calls nothing
 Follows s (Called k c call) = (s.owed ≡ None) × (k.0 ≡ s.calls + 1) × (s.pending c.0 ≡ None)
 Follows s (Stepped k c b q r) = (s.owed ≡ None) × ((o : PendingCall) × IsIn s c k o)
+Follows s (Waited k c b h) = (s.owed ≡ None) × ((o : PendingCall) × IsIn s c k o)
 -- a tree line stands directly under the line of its request; its step is the next of the call's steps, can be done, and makes a gfid of this call
 Follows s (Changed k step) = (w : Owed) × (s.owed ≡ Some w) × (w.call ≡ k) × IsOf w.request step × ((o : PendingCall) × IsIn s w.client k o × IsNext s.tree o.call o.deeds step × Fits step s.tree × IsOwn s.run w.client k (made_in step))
 -- an answer is what the tree says
 Follows s (Answered k c at a) = (s.owed ≡ None) × ((o : PendingCall) × IsIn s c k o × Answers s o at a)
+-- a client dies once
+Follows s (WentDown b) = s.owed ≡ None
+Follows s (CameUp b) = s.owed ≡ None
+Follows s (Died c) = (s.owed ≡ None) × (s.dead c.0 ≡ false)
 Follows s (Refused n cause) = s.owed ≡ None
 
 abbrev pub LegalFrom : History → List Line → Type 0

@@ -8,13 +8,14 @@ use Rattle.dht_types.specs.declared.errors.Errno.TheVariants.{Enoent, Eexist, Es
 use Rattle.dht_types.specs.declared.calls.Call.{Call}
 use Rattle.dht_types.specs.declared.calls.Call.TheVariants.{Lookup, Create}
 use Rattle.dht_types.specs.declared.calls.Answer.{Answer}
-use Rattle.dht_types.specs.declared.calls.Answer.TheVariants.{File, Made, Fault}
+use Rattle.dht_types.specs.declared.calls.Answer.TheVariants.{Dir, File, Made, Fault}
 use Rattle.dht_types.specs.declared.calls.TreeStep.{TreeStep}
 use Rattle.dht_types.specs.declared.calls.TreeStep.TheVariants.{AddFile}
 
 -- what a name stands for
 pub data Node : Type 0 where
   IsFile : Gfid → Node
+  IsDir : Gfid → Node
 
 -- a directory tree: what each name of a directory stands for, its directories, and the bytes of its files
 pub record Tree : Type 0 where
@@ -43,6 +44,7 @@ pub data Said : Type 0 where
 abbrev pub looked_up : Option Node → Said
 looked_up None = Refuse Enoent
 looked_up (Some (IsFile f)) = Say (File f)
+looked_up (Some (IsDir g)) = Say (Dir g)
 
 abbrev pub created : Gfid → List ℕ → Gfid → Option Node → Said
 created d n g None = Do (AddFile d n g ∷ []) (Made g)

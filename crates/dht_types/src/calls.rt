@@ -18,6 +18,8 @@ pub enum Call {
 pub enum Answer {
     /// The name is this file's.
     File(Gfid),
+    /// The name is this directory's.
+    Dir(Gfid),
     /// This file was made.
     Made(Gfid),
     /// The call was refused, or was cut short.

@@ -18,6 +18,10 @@ pub enum Errno {
     Enametoolong,
     /// The directory is none of the tree.
     Estale,
+    /// A brick was down.
+    Enotconn,
+    /// A brick failed.
+    Eio,
 }
 
 /// The number of an error in errno.h.
@@ -31,6 +35,8 @@ pub fn errno_number(error: Errno) -> u16
         Errno::Einval => 22,
         Errno::Enametoolong => 36,
         Errno::Estale => 116,
+        Errno::Enotconn => 107,
+        Errno::Eio => 5,
     }
 }
 
@@ -45,5 +51,7 @@ pub fn errno_word(error: Errno) -> &'static str
         Errno::Einval => "einval",
         Errno::Enametoolong => "enametoolong",
         Errno::Estale => "estale",
+        Errno::Enotconn => "enotconn",
+        Errno::Eio => "eio",
     }
 }

@@ -104,6 +104,10 @@ pub enum ReplyKind {
 /// Why an event of a schedule was refused.
 #[derive(Clone, Copy, PartialEq, Eq)]
 pub enum Cause {
+    /// There is no such client, or no such brick.
+    Unknown,
+    /// The client has died.
+    Dead,
     /// The client's call is still running.
     Busy,
     /// The client has no running call.
@@ -119,10 +123,18 @@ pub enum Line {
     Called(CallNo, ClientNo, Call),
     /// A brick served a request of a call.
     Stepped(CallNo, ClientNo, BrickNo, RequestKind, ReplyKind),
+    /// A lock that a call asked for waits for this other client, which holds it.
+    Waited(CallNo, ClientNo, BrickNo, ClientNo),
     /// The request of the line above did this step of the tree.
     Tree(CallNo, TreeStep),
     /// A call answered. The number is that of the line at which the answer holds, where it has one.
     Answered(CallNo, ClientNo, Option<u64>, Answer),
+    /// A brick went down.
+    WentDown(BrickNo),
+    /// A brick came back.
+    CameUp(BrickNo),
+    /// A client died, and its call, if it had one, ended without an answer.
+    Died(ClientNo),
     /// The event of this line of the schedule was refused.
     Refused(u64, Cause),
 }

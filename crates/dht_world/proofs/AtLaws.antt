@@ -1,289 +1,233 @@
--- How what holds of the world is kept by each kind of line.
-use Rattle.std.proofs.Common.{◌≡◌, ◌≢◌, ◌<◌, ◌≤◌, ◌+◌, ◌^◌, ℕ, Bool, true, false, List, [], ◌∷◌, ◌++◌, refl, sym, ap, ◌∙◌, subst, inl, inr, length, arith}
-use Rattle.std.specs.Prelude.{Option, Some, None, nat_eq, MatchBool}
+-- How what holds of the world is kept by an event: what each lemma here asks of the event, and the events that are no step.
+use Rattle.std.proofs.Common.{◌≡◌, ◌<◌, ◌≤◌, ◌+◌, ℕ, Bool, true, false, List, [], ◌∷◌, ◌++◌, refl, sym, ap, ◌∙◌, subst, inl, inr, length, arith}
+use Rattle.std.specs.Prelude.{Option, Some, None, nat_eq, MatchBool, if◌then◌else◌, slice_get, slice_set}
+use Rattle.std.proofs.Math.ListN.{length-set}
 use Rattle.dht_types.specs.Put.{put}
 use Rattle.dht_types.proofs.PutLaws.{put_same, put_other, exact_nat}
 use Rattle.dht_types.specs.Cost.{cost}
-use Rattle.dht_types.specs.Volume.{replay_names}
-use Rattle.dht_types.specs.History.{History, PendingCall, with_line, with_lines, start, history_of, LegalFrom}
-use Rattle.dht_types.proofs.HistoryLaws.{lines_more, lines_append, legal_append, point_with_line}
-use Rattle.dht_types.specs.declared.identifiers.CallNo.{CallNo}
+use Rattle.dht_types.specs.History.{History, PendingCall, Follows, LegalFrom, accepted, tells, with_line, with_lines, start, history_of}
+use Rattle.dht_types.proofs.HistoryLaws.{lines_append, lines_more}
 use Rattle.dht_types.specs.declared.calls.Call.{Call}
+use Rattle.dht_types.specs.declared.identifiers.BrickNo.{BrickNo}
+use Rattle.dht_types.specs.declared.identifiers.CallNo.{CallNo}
 use Rattle.dht_types.specs.declared.lines.Cause.{Cause}
 use Rattle.dht_types.specs.declared.lines.Line.{Line}
-use Rattle.dht_types.specs.declared.lines.Line.TheVariants.{Called, Answered, Refused}
-use Rattle.dht_brick.specs.Contents.{Contents}
-use Rattle.dht_brick.specs.Named.{entry_of}
-use Rattle.dht_brick.specs.Outcome.{Serves}
-use Rattle.dht_brick.specs.Rows.{row}
+use Rattle.dht_types.specs.declared.lines.Line.TheVariants.{Called, WentDown, CameUp, Died, Refused}
 use Rattle.dht_brick.specs.declared.journal.JournalEntry.{JournalEntry}
-use Rattle.dht_section.specs.declared.machine.Ask.{Ask}
-use Rattle.dht_section.specs.declared.machine.Finish.{Finish}
-use Rattle.dht_brick.specs.declared.replies.Reply.{Reply}
-use Rattle.dht_section.specs.Disk.{Disk, ChangesOneBrick}
-use Rattle.dht_section.specs.Invariant.{Invariant, NothingUsed}
-use Rattle.dht_section.specs.Scene.{Scene, Sound, Rely, MayAnswer, Permitted, Guarantee}
+use Rattle.dht_section.specs.Claims.{Claim, Listed, MayClaim, no_claim, place_in}
+use Rattle.dht_section.specs.Disk.{Disk, holders}
+use Rattle.dht_section.specs.Rely.{Rely}
+use Rattle.dht_section.specs.Shapes.{NameShape, Folder, Committed, Grows}
+use Rattle.dht_section.specs.Stages.{IsStable}
 use Rattle.dht_section.specs.declared.caller.Caller.{Ghosts as CallerGhosts}
-use Rattle.dht_section.specs.Begins.{Begins}
-use Rattle.dht_section.specs.Early.{Early}
-use Rattle.dht_section.proofs.EarlyLaws.{nat_cases}
-use Rattle.dht_invariant.proofs.QuietKeeps.{lines_keep}
-use Rattle.dht_invariant.proofs.RequestKeeps.{request_keeps}
-use Rattle.dht_world.specs.Lines.{request_lines}
-use Rattle.dht_world.specs.World.{scene, Works, Fit, At}
-use Rattle.dht_world.proofs.LineLaws.{in_time_append, legal_lines, others_line}
-use Rattle.dht_world.proofs.WentLaws.{client, Sent, Went, went}
+use Rattle.dht_invariant.specs.Laws.{TransitionLaws}
+use Rattle.dht_invariant.specs.Transition.{scene, Transition, FreesClient}
+use Rattle.dht_world.specs.Clients.{client, claim_at, claims_of, Works, ClientFits, CallsCounted, Starts}
+use Rattle.dht_world.specs.Following.{InTime, InTimeFrom}
+use Rattle.dht_world.specs.World.{Counts, Fit, At}
+use Rattle.dht_world.specs.declared.places.Place.{Place}
+use Rattle.dht_world.specs.declared.places.Place.TheVariants.{Living, Dead}
+use Rattle.dht_world.proofs.BrickLaws.{get_set_same, get_set_other, none_at}
+use Rattle.dht_world.proofs.ClientLaws.{Happens, fit_after, claims_set, idle_is}
+use Rattle.dht_world.proofs.CountLaws.{counted_called, counted_ended, not_none}
+use Rattle.dht_world.proofs.LineLaws.{in_time_append, legal_lines}
 
--- a running call of another client there is none, so no call but the one client's is new
-no_other : (s : History) (f : ℕ → Option PendingCall) → ((c : ℕ) → c ≢ 0 → s.pending c ≡ None) → (o : Option PendingCall) → (c : ℕ) (r : PendingCall) → put nat_eq s.pending 0 o c ≡ Some r → (c ≡ 0) × (o ≡ Some r)
-no_other s f alone o c r e = elim (nat_cases c 0) [
-  | inl q ↦ (q, sym (ap (put nat_eq s.pending 0 o) q ∙ put_same nat_eq exact_nat s.pending 0 o) ∙ e)
-  | inr ne ↦ absurd (let z : Some r ≡ None = sym e ∙ (put_other nat_eq exact_nat s.pending 0 o c ne ∙ alone c ne) in cc)
-]
+pub grows_refl : (h : NameShape) → Grows h h
+grows_refl (Folder g on) = (on, refl, λ b e. e)
+grows_refl (Committed t f) = (false, refl)
+grows_refl h = refl
 
-module _ {C : Type 0} (g : CallerGhosts C) (stable : (c : C) (s t : Scene) → g.knows c s → Rely s t → g.knows c t) where
-  own_refused : (d : Disk) (s : History) (c : C) (n : ℕ) (cause : Cause) (b : Bool) → MatchBool b (Works g d s c) (s.pending 0 ≡ None) → MatchBool b (Works g d (with_line s (Refused n cause)) c) (s.pending 0 ≡ None)
-  own_refused d s c n cause true h =
-      let begun = h.begun in
-      record {
-        mine = h.mine;
-        runs = h.runs;
-        number = h.number;
-        begun = omega arith;
-        knows = stable c (scene d s client h.mine) (scene d (with_line s (Refused n cause)) client h.mine) h.knows (others_line d s client h.mine (Refused n cause) refl refl);
-        in_time = h.in_time;
-      }
-  own_refused d s c n cause false h = h
+-- to claim something else is what others may do, also to myself
+pub rely_claimed : (d : Disk) (s : History) (p q : ℕ → Claim) (c : ℕ) (r : PendingCall) → Rely (scene d s p (client c) r) (scene d s q (client c) r)
+rely_claimed d s p q c r = record {
+  who = refl;
+  mine = record { number = refl; call = refl; since = refl; alone = refl; was_down = refl; has_failed = refl; deeds = refl };
+  count = refl;
+  run = refl;
+  weights = refl;
+  locks = λ b key. refl;
+  names = λ e h g st. (h, grows_refl h, st);
+  slots = λ e b g h. refl;
+  outlines = λ e b f g l h. refl;
+  dirs = λ g b x h e. (x, e, record { place = refl; depth = refl; hashes = refl });
+  added = λ g b x h n e. absurd (not_none _ x n e);
+  known = λ g h e. e;
+  used = λ f h. h;
+  sealed = λ f h. h;
+  later = omega arith;
+  past = λ j l. refl;
+}
 
-  -- a refused event changes nothing
-  pub fit_refused : (d : Disk) (js : ℕ → List JournalEntry) (c : C) (ws : List ℕ) (run calls lines : ℕ) (s : History) (n : ℕ) (cause : Cause) → Fit g d js c ws run calls lines s → Fit g d js c ws run calls (lines + 1) (with_line s (Refused n cause))
-  fit_refused d js c ws run calls lines s n cause h =
-      let size = h.same_size in
-      let fewer = h.fewer in
-      let t = with_line s (Refused n cause) in
-      let keeps = lines_keep d s t (record { tree = refl; weights = refl; run = refl; calls = omega arith; later = omega arith; point = point_with_line s (Refused n cause) }) h.kept.fresh h.kept h.early in
-      record {
-        kept = keeps.0;
-        early = keeps.1;
-        logged = record { steps = h.logged.steps; slots = h.logged.slots };
-        same_weights = h.same_weights;
-        same_run = h.same_run;
-        same_calls = h.same_calls;
-        same_size = omega arith;
-        fewer = omega arith;
-        who = h.who;
-        alone = h.alone;
-        own = own_refused d s c n cause (g.is_busy c) h.own;
-      }
+-- the line tells of nothing that the world keeps but bricks that are down
+pub record IsStill (s : History) (x : Line) : Type 0 where
+  pub tree : (tells s x).tree ≡ s.tree
+  pub weights : (tells s x).weights ≡ s.weights
+  pub run : (tells s x).run ≡ s.run
+  pub calls : (tells s x).calls ≡ s.calls
+  pub pending : (tells s x).pending ≡ s.pending
+  pub callers : (tells s x).callers ≡ s.callers
+  pub dead : (tells s x).dead ≡ s.dead
+  pub clean : (tells s x).clean ≡ true → s.clean ≡ true
+  pub requests : (tells s x).requests ≡ s.requests
+  pub acts : (tells s x).acts ≡ s.acts
+  pub changes : (tells s x).changes ≡ s.changes
 
-  pub at_refused : (d : Disk) (js : ℕ → List JournalEntry) (c : C) (ws : List ℕ) (run calls lines : ℕ) (past : List Line) (n : ℕ) (cause : Cause) → At g d js c ws run calls lines past → At g d js c ws run calls (lines + 1) (past ++ Refused n cause ∷ [])
-  at_refused d js c ws run calls lines past n cause h = record {
-    legal = legal_lines past (Refused n cause ∷ []) h.legal (h.legal.whole, tt) refl;
-    in_time = in_time_append start past (Refused n cause ∷ []) h.in_time (tt, tt);
-    fit = subst (λ (x : History). Fit g d js c ws run calls (lines + 1) x) (sym (lines_more start past (Refused n cause))) (fit_refused d js c ws run calls lines (history_of past) n cause h.fit);
+pub still_refused : (s : History) (n : ℕ) (cause : Cause) → IsStill s (Refused n cause)
+still_refused s n cause = record { tree = refl; weights = refl; run = refl; calls = refl; pending = refl; callers = refl; dead = refl; clean = λ q. q; requests = refl; acts = refl; changes = refl }
+
+pub still_down : (s : History) (b : BrickNo) → IsStill s (WentDown b)
+still_down s b = record { tree = refl; weights = refl; run = refl; calls = refl; pending = refl; callers = refl; dead = refl; clean = λ q. absurd (let z : false ≡ true = q in cc); requests = refl; acts = refl; changes = refl }
+
+pub still_up : (s : History) (b : BrickNo) → IsStill s (CameUp b)
+still_up s b = record { tree = refl; weights = refl; run = refl; calls = refl; pending = refl; callers = refl; dead = refl; clean = λ q. q; requests = refl; acts = refl; changes = refl }
+
+-- which bricks are down after a line more
+pub down_after : (past : List Line) (x : Line) (down : ℕ → Bool) → (tells (history_of past) x).down ≡ down → (history_of (past ++ x ∷ [])).down ≡ down
+down_after past x down e = ap (λ (s : History). s.down) (lines_more start past x) ∙ e
+
+module _ {C : Type 0} (g : CallerGhosts C) (laws : TransitionLaws) (stable : (x : C) → IsStable (g.stage x)) where
+  -- lines that may come, after which the world fits
+  pub at_by : (c : ℕ) (d e : Disk) (js ks : ℕ → List JournalEntry) (places after : List (Place C)) (ws : List ℕ) (m n : Counts) (past lines : List Line) → At g d js places ws m past → LegalFrom (history_of past) lines → (with_lines (history_of past) lines).owed ≡ None → InTimeFrom (history_of past) lines → Happens g c d e ks (history_of past) (with_lines (history_of past) lines) places after n → At g e ks after ws n (past ++ lines)
+  at_by c d e js ks places after ws m n past lines h legal owed in_time happens = record {
+    legal = legal_lines past lines h.legal legal owed;
+    in_time = in_time_append start past lines h.in_time in_time;
+    fit = subst (λ (x : History). Fit g e ks after ws n x) (sym (lines_append start past lines)) (fit_after g stable c d e js ks (history_of past) (with_lines (history_of past) lines) places after ws m n h.fit happens);
   }
 
-  -- the call that began
-  begun_call : History → CallNo → Call → PendingCall
-  begun_call s k call = record { number = k; call = call; since = s.size + 1; steps = 0; deeds = None }
-
-  idle_is : (X Y : Type 0) (b : Bool) → b ≡ false → MatchBool b X Y → Y
-  idle_is X Y true e h = absurd (let z : true ≡ false = e in cc)
-  idle_is X Y false e h = h
-
-  busy_is : (X Y : Type 0) (b : Bool) → b ≡ true → MatchBool b X Y → X
-  busy_is X Y true e h = h
-  busy_is X Y false e h = absurd (let z : false ≡ true = e in cc)
-
-  -- of a call that was accepted just now nothing is used
-  called_unused : (d : Disk) (s : History) (k : CallNo) (call : Call) → Invariant d s → ((c : ℕ) → c ≢ 0 → s.pending c ≡ None) → k.0 ≡ s.calls + 1 → NothingUsed d (with_line s (Called k client call))
-  unfolding begun_call
-  called_unused d s k call kept alone ek c o g l e none own u =
-      let q = no_other s s.pending alone (Some (begun_call s k call)) c.0 o e in
-      let w : begun_call s k call ≡ o = (let z : Some (begun_call s k call) ≡ Some o = q.1 in cc) in
-      let number : k.0 ≡ o.number.0 = ap (λ (y : PendingCall). y.number.0) w in
-      let most = kept.known g c o.number l u own in
-      absurd (omega arith)
-
-  pub fit_called : (d : Disk) (js : ℕ → List JournalEntry) (old new : C) (ws : List ℕ) (run calls lines : ℕ) (s : History) (k : CallNo) (call : Call) → g.is_busy old ≡ false → g.is_busy new ≡ true → g.number new ≡ g.number old → k.0 ≡ calls + 1 → ((x : Scene) → Begins (g.number old) ws run k call x → g.knows new x) → g.variant new ≤ cost (length ws) call → Fit g d js old ws run calls lines s → Fit g d js new ws run (calls + 1) (lines + 1) (with_line s (Called k client call))
-  unfolding begun_call
-  fit_called d js old new ws run calls lines s k call idle busy same ek begins bound h =
-      let size = h.same_size in
-      let fewer = h.fewer in
-      let count = h.same_calls in
-      let x = Called k client call in
-      let r = begun_call s k call in
-      let keeps = lines_keep d s (with_line s x) (record { tree = refl; weights = refl; run = refl; calls = omega arith; later = omega arith; point = point_with_line s x }) (called_unused d s k call h.kept h.alone (omega arith)) h.kept h.early in
-      let works : Works g d (with_line s x) new = record {
-        mine = r;
-        runs = put_same nat_eq exact_nat s.pending 0 (Some r);
-        number = omega arith;
-        begun = omega arith;
-        knows = begins (scene d (with_line s x) client r) (record { who = sym h.who; weights = h.same_weights; run = h.same_run; number = refl; call = refl; fresh = refl });
-        in_time = (let l : g.variant new ≤ cost (length s.weights) call = subst (λ (y : List ℕ). g.variant new ≤ cost (length y) call) (sym h.same_weights) bound in omega arith);
-      } in
+  -- a line that tells of nothing
+  still_happens : (d : Disk) (js : ℕ → List JournalEntry) (places : List (Place C)) (ws : List ℕ) (n : Counts) (s : History) (x : Line) → Fit g d js places ws n s → IsStill s x → Happens g 64 d d js s (with_line s x) places places (record n { lines = n.lines + 1 })
+  still_happens d js places ws n s x fit h =
+      let counts = fit.counts in
+      let size = counts.lines in
+      let calls = h.calls in
+      let fewer = counts.fewer in
+      let less = counts.less in
+      let many = fit.many in
       record {
-        kept = keeps.0;
-        early = keeps.1;
-        logged = record { steps = h.logged.steps; slots = h.logged.slots };
-        same_weights = h.same_weights;
-        same_run = h.same_run;
-        same_calls = omega arith;
-        same_size = omega arith;
-        fewer = omega arith;
-        who = same ∙ h.who;
-        alone = λ c ne. put_other nat_eq exact_nat s.pending 0 (Some r) c ne ∙ h.alone c ne;
-        own = subst (λ (b : Bool). MatchBool b (Works g d (with_line s x) new) ((with_line s x).pending 0 ≡ None)) (sym busy) works;
+        transition = laws.line 64 d s (claims_of g places) x fit.kept fit.early (record {
+          tree = h.tree;
+          weights = h.weights;
+          calls = omega arith;
+          pending = λ w ne. ap (λ (f : ℕ → Option PendingCall). f w) h.pending;
+          own = λ r e none. inl (record { before = r; was_it = sym (ap (λ (f : ℕ → Option PendingCall). f 64) h.pending) ∙ e; number = refl; fresh = none });
+        });
+        passes = record { weights = h.weights; calls = omega arith; clean = h.clean; dead = λ w ne. ap (λ (f : ℕ → Bool). f w) h.dead };
+        logged = record { steps = λ b. fit.logged.steps b ∙ sym (ap (λ f. f b) h.acts); slots = λ b. fit.logged.slots b ∙ sym (ap (λ f. f b) h.changes) };
+        counts = record { run = h.run ∙ counts.run; calls = h.calls ∙ counts.calls; lines = omega arith; requests = h.requests ∙ counts.requests; fewer = omega arith; less = omega arith };
+        counted = record {
+          listed = λ c r e. subst (Rattle.dht_world.specs.Clients.IsListed c) (sym h.callers) (fit.counted.listed c r (sym (ap (λ (f : ℕ → Option PendingCall). f c) h.pending) ∙ e));
+          numbered = λ c r e. (let l = fit.counted.numbered c r (sym (ap (λ (f : ℕ → Option PendingCall). f c) h.pending) ∙ e) in omega arith);
+          alone = λ c w r e first last ne. ap (λ (f : ℕ → Option PendingCall). f w) h.pending ∙ fit.counted.alone c w r (sym (ap (λ (f : ℕ → Option PendingCall). f c) h.pending) ∙ e) first (last ∙ h.calls) ne;
+        };
+        many = refl;
+        same = λ w ne. refl;
+        own = subst (λ (o : Option (Place C)). ClientFits g d (with_line s x) (claims_of g places) 64 o) (sym (none_at places 64 (omega arith))) tt;
       }
 
-  pub at_called : (d : Disk) (js : ℕ → List JournalEntry) (old new : C) (ws : List ℕ) (run calls lines : ℕ) (past : List Line) (k : CallNo) (call : Call) → g.is_busy old ≡ false → g.is_busy new ≡ true → g.number new ≡ g.number old → k.0 ≡ calls + 1 → ((x : Scene) → Begins (g.number old) ws run k call x → g.knows new x) → g.variant new ≤ cost (length ws) call → At g d js old ws run calls lines past → At g d js new ws run (calls + 1) (lines + 1) (past ++ Called k client call ∷ [])
-  at_called d js old new ws run calls lines past k call idle busy same ek begins bound h =
-      let count = h.fit.same_calls in
-      record {
-        legal = legal_lines past (Called k client call ∷ []) h.legal ((h.legal.whole, omega arith, idle_is _ _ (g.is_busy old) idle h.fit.own), tt) refl;
-        in_time = in_time_append start past (Called k client call ∷ []) h.in_time (tt, tt);
-        fit = subst (λ (x : History). Fit g d js new ws run (calls + 1) (lines + 1) x) (sym (lines_more start past (Called k client call))) (fit_called d js old new ws run calls lines (history_of past) k call idle busy same ek begins bound h.fit);
-      }
+  pub at_still : (d : Disk) (js : ℕ → List JournalEntry) (places : List (Place C)) (ws : List ℕ) (n : Counts) (past : List Line) (x : Line) → At g d js places ws n past → IsStill (history_of past) x → Follows (history_of past) x → (with_line (history_of past) x).owed ≡ None → InTime (history_of past) x → At g d js places ws (record n { lines = n.lines + 1 }) (past ++ x ∷ [])
+  at_still d js places ws n past x h still follows owed in_time =
+      at_by 64 d d js js places places ws n (record n { lines = n.lines + 1 }) past (x ∷ []) h (follows, tt) owed (in_time, tt) (still_happens d js places ws n (history_of past) x h.fit still)
 
-  -- all that one request leads to
-  pub record Advanced (d : Disk) (s : History) (c : C) (k : CallNo) (a : Ask) (r : Reply) (e : Disk) (ks : ℕ → List JournalEntry) : Type 0 where
-    pub works : Works g d s c
-    pub call_is : works.mine.number ≡ k
-    pub went : Went d s works.mine a r e ks (request_lines k client a r)
-    pub kept : Invariant e (with_lines s (request_lines k client a r))
-    pub early : Early e (with_lines s (request_lines k client a r))
-    pub before : Sound (scene d s client works.mine)
-    pub after : Sound (scene e (with_lines s (request_lines k client a r)) client went.mine_then)
-    pub moved : Guarantee (scene d s client works.mine) (g.asks c) r (scene e (with_lines s (request_lines k client a r)) client went.mine_then)
+  -- an event that was refused
+  pub at_refused : (d : Disk) (js : ℕ → List JournalEntry) (places : List (Place C)) (ws : List ℕ) (n : Counts) (past : List Line) (line : ℕ) (cause : Cause) → At g d js places ws n past → At g d js places ws (record n { lines = n.lines + 1 }) (past ++ Refused line cause ∷ [])
+  at_refused d js places ws n past line cause h = at_still d js places ws n past (Refused line cause) h (still_refused (history_of past) line cause) h.legal.whole refl tt
 
-  number_is : (k : CallNo) (m : CallNo) → m.0 ≡ k.0 → m ≡ k
-  number_is k m h = ap (λ (n : ℕ). let x : CallNo = record { 0 = n } in x) h
+  pub at_down : (d : Disk) (js : ℕ → List JournalEntry) (places : List (Place C)) (ws : List ℕ) (n : Counts) (past : List Line) (b : BrickNo) → At g d js places ws n past → At g d js places ws (record n { lines = n.lines + 1 }) (past ++ WentDown b ∷ [])
+  at_down d js places ws n past b h = at_still d js places ws n past (WentDown b) h (still_down (history_of past) b) h.legal.whole refl tt
 
-  pub advance : (permitted : (c : C) (x : Scene) → Sound x → g.is_busy c ≡ true → g.knows c x → Permitted x (g.asks c)) (d e : Disk) (js ks : ℕ → List JournalEntry) (c : C) (ws : List ℕ) (run calls lines : ℕ) (past : List Line) (k : CallNo) (a : Ask) (r : Reply) (after : Contents) → g.is_busy c ≡ true → 0 < g.variant c → a ≡ g.asks c → k.0 ≡ calls → lines < 2 ^ 64 → Serves (row (replay_names d.count) client k a.request (d.brick a.brick.0)) (d.brick a.brick.0) r after → ChangesOneBrick d a.brick.0 after e → ks ≡ put nat_eq js a.brick.0 (js a.brick.0 ++ entry_of client k a.request r ∷ []) → At g d js c ws run calls lines past → Advanced d (history_of past) c k a r e ks
-  advance permitted d e js ks c ws run calls lines past k a r new busy some ea ek small served changes noted h =
+  pub at_up : (d : Disk) (js : ℕ → List JournalEntry) (places : List (Place C)) (ws : List ℕ) (n : Counts) (past : List Line) (b : BrickNo) → At g d js places ws n past → At g d js places ws (record n { lines = n.lines + 1 }) (past ++ CameUp b ∷ [])
+  at_up d js places ws n past b h = at_still d js places ws n past (CameUp b) h (still_up (history_of past) b) h.legal.whole refl tt
+
+  -- what is set at a client's place
+  pub own_set : (e : Disk) (t : History) (places : List (Place C)) (c : ℕ) (k : Place C) → c < length places → ClientFits g e t (claims_of g (slice_set places c k)) c (Some k) → ClientFits g e t (claims_of g (slice_set places c k)) c (slice_get (slice_set places c k) c)
+  own_set e t places c k l h = subst (λ (o : Option (Place C)). ClientFits g e t (claims_of g (slice_set places c k)) c o) (sym (get_set_same places c k l)) h
+
+  -- a client died
+  pub at_died : (d e : Disk) (js : ℕ → List JournalEntry) (places : List (Place C)) (ws : List ℕ) (n : Counts) (past : List Line) (c : ℕ) → c < 64 → (history_of past).dead c ≡ false → FreesClient c d e → At g d js places ws n past → At g e js (slice_set places c Dead) ws (record n { lines = n.lines + 1 }) (past ++ Died (client c) ∷ [])
+  at_died d e js places ws n past c l living frees h =
       let s = history_of past in
-      let f = h.fit in
-      let fewer = f.fewer in
-      let count = f.same_calls in
-      let works : Works g d s c = busy_is _ _ (g.is_busy c) busy f.own in
-      let n = works.number in
-      let l = works.in_time in
-      let call_is : works.mine.number ≡ k = number_is k works.mine.number (omega arith) in
-      let before : Sound (scene d s client works.mine) = record { kept = f.kept; early = f.early; first = refl; runs = works.runs; begun = works.begun } in
-      let sent : Sent d js s works.mine k a r e ks = record {
-        logged = f.logged;
-        owed = h.legal.whole;
-        runs = works.runs;
-        number = call_is;
-        last = omega arith;
-        small = omega arith;
-        begun = works.begun;
-        alone = f.alone;
-        in_time = omega arith;
-        permitted = rw ea (permitted c (scene d s client works.mine) before busy works.knows);
-        new = new;
-        served = subst (λ (x : CallNo). Serves (row (replay_names (length s.weights)) client x a.request (d.brick a.brick.0)) (d.brick a.brick.0) r new) (sym call_is)
-            (subst (λ (i : ℕ). Serves (row (replay_names i) client k a.request (d.brick a.brick.0)) (d.brick a.brick.0) r new) f.kept.counted served);
-        changes = changes;
-        journals = noted;
-      } in
-      let w = went d js s works.mine k a r e ks sent in
-      let keeps = request_keeps (scene d s client works.mine) (scene e (with_lines s (request_lines k client a r)) client w.mine_then) a r w.moved before sent.permitted w.only in
-      record {
-        works = works;
-        call_is = call_is;
-        went = w;
-        kept = keeps.0;
-        early = keeps.1;
-        before = before;
-        after = record { kept = keeps.0; early = keeps.1; first = refl; runs = w.runs; begun = w.begun };
-        moved = subst (λ (x : Ask). Guarantee (scene d s client works.mine) x r (scene e (with_lines s (request_lines k client a r)) client w.mine_then)) ea w.moved;
-      }
+      let t = with_line s (Died (client c)) in
+      let fit = h.fit in
+      let counts = fit.counts in
+      let size = counts.lines in
+      let fewer = counts.fewer in
+      let less = counts.less in
+      let many = fit.many in
+      let within : c < length places = omega arith in
+      at_by c d e js js places (slice_set places c Dead) ws n (record n { lines = n.lines + 1 }) past (Died (client c) ∷ []) h ((h.legal.whole, living), tt) refl (tt, tt) (record {
+        transition = subst (λ (q : ℕ → Claim). Transition c d s (claims_of g places) e t q) (claims_set g places c Dead within) (laws.death (client c) d e s (claims_of g places) fit.kept fit.early frees);
+        passes = record { weights = refl; calls = omega arith; clean = λ q. absurd (let z : false ≡ true = q in cc); dead = λ w ne. put_other nat_eq exact_nat s.dead c true w ne };
+        logged = record { steps = fit.logged.steps; slots = fit.logged.slots };
+        counts = record { run = counts.run; calls = counts.calls; lines = omega arith; requests = counts.requests; fewer = omega arith; less = omega arith };
+        counted = counted_ended s t c fit.counted refl refl refl;
+        many = length-set places c Dead;
+        same = λ w ne. get_set_other places c Dead w ne;
+        own = own_set e t places c Dead within (put_same nat_eq exact_nat s.dead c true, put_same nat_eq exact_nat s.pending c None);
+      })
 
-  pub at_on : (d e : Disk) (js ks : ℕ → List JournalEntry) (old new : C) (ws : List ℕ) (run calls lines : ℕ) (past : List Line) (k : CallNo) (a : Ask) (r : Reply) → (v : Advanced d (history_of past) old k a r e ks) → g.number new ≡ g.number old → g.is_busy new ≡ true → g.knows new (scene e (with_lines (history_of past) (request_lines k client a r)) client v.went.mine_then) → g.variant new < g.variant old → At g d js old ws run calls lines past → At g e ks new ws run calls (lines + length (request_lines k client a r)) (past ++ request_lines k client a r)
-  at_on d e js ks old new ws run calls lines past k a r v same busy knows fewer_left h =
+  -- what an idle client claims
+  pub idle_claims : (x : C) (n : CallNo) → g.is_busy x ≡ false → claim_at g (Some (Living x n)) ≡ no_claim
+  idle_claims x n idle = ap (λ (b : Bool). if b then (g.stage x).claims else no_claim) idle
+
+  pub busy_claims : (x : C) (n : CallNo) → g.is_busy x ≡ true → claim_at g (Some (Living x n)) ≡ (g.stage x).claims
+  busy_claims x n busy = ap (λ (b : Bool). if b then (g.stage x).claims else no_claim) busy
+
+  -- a client that claims nothing holds no lock, so it may claim any
+  may_begin : (d : Disk) (s : History) (p : ℕ → Claim) (c : ℕ) (new : Claim) → Rattle.dht_section.specs.Invariant.Invariant d s p → p c ≡ no_claim → new.copy ≡ None → MayClaim d.count (λ b key. holders d b key c) (p c) new
+  may_begin d s p c new kept none copy = record {
+    locks = λ b key m l e. absurd (subst (λ (x : Claim). Listed x.locks b key) none ((kept.things.locks b key l).claimed c m e));
+    copy = λ f dest. (let z : place_in new.copy f dest ≡ 0 = ap (λ o. place_in o f dest) copy in omega arith);
+  }
+
+  -- a call was accepted
+  pub at_called : (d : Disk) (js : ℕ → List JournalEntry) (places : List (Place C)) (ws : List ℕ) (n : Counts) (past : List Line) (c : ℕ) (k : CallNo) (call : Call) (old new : Place C) → c < 64 → slice_get places c ≡ Some old → (v : Starts g old ws n.run k call new) → g.is_busy v.before ≡ false → k.0 ≡ n.calls + 1 → At g d js places ws n past → At g d js (slice_set places c new) ws (record n { calls = n.calls + 1; lines = n.lines + 1 }) (past ++ Called k (client c) call ∷ [])
+  at_called d js places ws n past c k call old new l was v idle ek h =
       let s = history_of past in
-      let t = with_lines s (request_lines k client a r) in
-      let w = v.went in
-      let f = h.fit in
-      let size = w.size in
-      let old_size = f.same_size in
-      let fewer = f.fewer in
-      let steps = w.steps in
-      let in_time = v.works.in_time in
-      let calls_then = w.only.calls in
-      let count = f.same_calls in
-      let n = v.works.number in
-      let number_then : w.mine_then.number ≡ v.works.mine.number = w.moved.number in
-      let works : Works g e t new = record {
-        mine = w.mine_then;
-        runs = w.runs;
-        number = (let z = ap (λ (x : CallNo). x.0) number_then in omega arith);
-        begun = w.begun;
-        knows = knows;
-        in_time = subst (λ (x : Call). w.mine_then.steps + g.variant new ≤ cost (length t.weights) x) (sym w.same_call)
-            (subst (λ (y : List ℕ). w.mine_then.steps + g.variant new ≤ cost (length y) v.works.mine.call) (sym w.same_weights) (omega arith));
-      } in
-      let fit : Fit g e ks new ws run calls (lines + length (request_lines k client a r)) t = record {
-        kept = v.kept;
-        early = v.early;
-        logged = w.logged;
-        same_weights = w.same_weights ∙ f.same_weights;
-        same_run = w.same_run ∙ f.same_run;
-        same_calls = calls_then ∙ count;
-        same_size = omega arith;
-        fewer = omega arith;
-        who = same ∙ f.who;
-        alone = w.alone;
-        own = subst (λ (b : Bool). MatchBool b (Works g e t new) (t.pending 0 ≡ None)) (sym busy) works;
-      } in
-      record {
-        legal = legal_lines past (request_lines k client a r) h.legal w.legal w.owed;
-        in_time = in_time_append start past (request_lines k client a r) h.in_time w.in_time;
-        fit = subst (λ (x : History). Fit g e ks new ws run calls (lines + length (request_lines k client a r)) x) (sym (lines_append start past (request_lines k client a r))) fit;
-      }
-
-  pub at_answered : (d e : Disk) (js ks : ℕ → List JournalEntry) (old new : C) (ws : List ℕ) (run calls lines : ℕ) (past : List Line) (k : CallNo) (a : Ask) (r : Reply) (y : Finish) → (v : Advanced d (history_of past) old k a r e ks) → g.number new ≡ g.number old → g.is_busy new ≡ false → MayAnswer y (scene e (with_lines (history_of past) (request_lines k client a r)) client v.went.mine_then) → At g d js old ws run calls lines past → At g e ks new ws run calls (lines + length (request_lines k client a r) + 1) (past ++ (request_lines k client a r ++ Answered k client y.at y.answer ∷ []))
-  at_answered d e js ks old new ws run calls lines past k a r y v same idle earned h =
-      let s = history_of past in
-      let xs = request_lines k client a r in
-      let t = with_lines s xs in
-      let x = Answered k client y.at y.answer in
-      let u = with_line t x in
-      let w = v.went in
-      let f = h.fit in
-      let size = w.size in
-      let old_size = f.same_size in
-      let fewer = f.fewer in
-      let calls_then = w.only.calls in
-      let count = f.same_calls in
-      let number_then : w.mine_then.number ≡ k = w.moved.number ∙ v.call_is in
-      let all : with_lines s (xs ++ x ∷ []) ≡ u = lines_append s xs (x ∷ []) in
-      let legal_all : LegalFrom s (xs ++ x ∷ []) = legal_append s xs (x ∷ []) w.legal ((w.owed, (w.mine_then, record { runs = w.runs; number = number_then }, earned)), tt) in
-      let keeps = lines_keep e t u (record { tree = refl; weights = refl; run = refl; calls = omega arith; later = omega arith; point = point_with_line t x })
-      (λ c o b l e1 e2 own used. absurd (let q = no_other t t.pending w.alone None c.0 o e1 in let z : None ≡ Some o = q.1 in cc)) v.kept v.early in
-      let fit : Fit g e ks new ws run calls (lines + length xs + 1) u = record {
-        kept = keeps.0;
-        early = keeps.1;
-        logged = record { steps = w.logged.steps; slots = w.logged.slots };
-        same_weights = w.same_weights ∙ f.same_weights;
-        same_run = w.same_run ∙ f.same_run;
-        same_calls = calls_then ∙ count;
-        same_size = omega arith;
-        fewer = omega arith;
-        who = same ∙ f.who;
-        alone = λ c ne. put_other nat_eq exact_nat t.pending 0 None c ne ∙ w.alone c ne;
-        own = subst (λ (b : Bool). MatchBool b (Works g e u new) (u.pending 0 ≡ None)) (sym idle) (put_same nat_eq exact_nat t.pending 0 None);
-      } in
-      record {
-        legal = legal_lines past (xs ++ x ∷ []) h.legal legal_all (ap (λ (z : History). z.owed) all);
-        in_time = in_time_append start past (xs ++ x ∷ []) h.in_time (in_time_append s xs (x ∷ []) w.in_time (tt, tt));
-        fit = subst (λ (z : History). Fit g e ks new ws run calls (lines + length xs + 1) z) (sym (lines_append start past (xs ++ x ∷ []) ∙ all)) fit;
-      }
-
-  -- what is known of the client's own call, as an event meets it
-  pub idle_call : (d : Disk) (js : ℕ → List JournalEntry) (c : C) (ws : List ℕ) (run calls lines : ℕ) (past : List Line) → g.is_busy c ≡ false → At g d js c ws run calls lines past → (history_of past).pending 0 ≡ None
-  idle_call d js c ws run calls lines past idle h = idle_is _ _ (g.is_busy c) idle h.fit.own
-
-  pub busy_call : (d : Disk) (js : ℕ → List JournalEntry) (c : C) (ws : List ℕ) (run calls lines : ℕ) (past : List Line) → g.is_busy c ≡ true → At g d js c ws run calls lines past → Works g d (history_of past) c
-  busy_call d js c ws run calls lines past busy h = busy_is _ _ (g.is_busy c) busy h.fit.own
+      let x = Called k (client c) call in
+      let t = with_line s x in
+      let fit = h.fit in
+      let counts = fit.counts in
+      let size = counts.lines in
+      let count = counts.calls in
+      let fewer = counts.fewer in
+      let less = counts.less in
+      let many = fit.many in
+      let within : c < length places = omega arith in
+      let p = claims_of g places in
+      let here : slice_get places c ≡ Some (Living v.before v.number) = was ∙ ap (λ (y : Place C). Some y) v.was in
+      let fits : ClientFits g d s p c (Some (Living v.before v.number)) = subst (ClientFits g d s p c) here (fit.each c) in
+      let none : s.pending c ≡ None = idle_is _ _ (g.is_busy v.before) idle fits.2 in
+      let r : PendingCall = accepted s.callers (s.size + 1) k call in
+      let one = laws.line c d s p x fit.kept fit.early (record {
+        tree = refl;
+        weights = refl;
+        calls = omega arith;
+        pending = λ w ne. put_other nat_eq exact_nat s.pending c (Some r) w ne;
+        own = λ o e fresh. inr (let z : r ≡ o = (let y : Some r ≡ Some o = sym (put_same nat_eq exact_nat s.pending c (Some r)) ∙ e in cc) in let y : k.0 ≡ o.number.0 = ap (λ (q : PendingCall). q.number.0) z in omega arith);
+      }) in
+      let claims = busy_claims v.after k v.busy in
+      let two = laws.claim c d t p (g.stage v.after).claims one.kept one.early (may_begin d t p c (g.stage v.after).claims one.kept (ap (claim_at g) here ∙ idle_claims v.before v.number idle) v.copy) in
+      let both = laws.compose c d d d s t t p p (put nat_eq p c (g.stage v.after).claims) fit.kept one two in
+      let new_is : new ≡ Living v.after k = v.is in
+      let set : put nat_eq p c (g.stage v.after).claims ≡ claims_of g (slice_set places c new) = ap (put nat_eq p c) (sym claims ∙ ap (λ (y : Place C). claim_at g (Some y)) (sym new_is)) ∙ claims_set g places c new within in
+      at_by c d d js js places (slice_set places c new) ws n (record n { calls = n.calls + 1; lines = n.lines + 1 }) past (x ∷ []) h ((h.legal.whole, omega arith, none), tt) refl (tt, tt) (record {
+        transition = subst (λ (q : ℕ → Claim). Transition c d s p d t q) set both;
+        passes = record { weights = refl; calls = omega arith; clean = λ q. q; dead = λ w ne. refl };
+        logged = record { steps = fit.logged.steps; slots = fit.logged.slots };
+        counts = record { run = counts.run; calls = omega arith; lines = omega arith; requests = counts.requests; fewer = omega arith; less = omega arith };
+        counted = counted_called s c k.0 call fit.counted (omega arith);
+        many = length-set places c new;
+        same = λ w ne. get_set_other places c new w ne;
+        own = own_set d t places c new within (subst (λ (y : Place C). ClientFits g d t (claims_of g (slice_set places c new)) c (Some y)) (sym new_is) (
+          fits.0,
+          v.same ∙ fits.1,
+          subst (λ (b : Bool). MatchBool b (Works g d t (claims_of g (slice_set places c new)) c v.after k) (t.pending c ≡ None)) (sym v.busy) (record {
+            mine = r;
+            runs = put_same nat_eq exact_nat s.pending c (Some r);
+            number = refl;
+            begun = omega arith;
+            knows = v.knows (scene d t (claims_of g (slice_set places c new)) (client c) r) (record { who = sym fits.1; weights = fit.same_weights; run = counts.run; number = refl; call = refl; fresh = refl });
+            in_time = λ u. (let bound = v.variant in subst (λ (y : List ℕ). 0 + (g.stage v.after).variant ≤ cost (length y) call) (sym fit.same_weights) (omega arith));
+          }),
+        ));
+      })

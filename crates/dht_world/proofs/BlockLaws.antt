@@ -1,30 +1,42 @@
 -- The lines of one event are a head line and what stands under it.
-use Rattle.std.proofs.Common.{◌≡◌, ◌+◌, ℕ, Bool, true, false, [], ◌∷◌, ◌++◌, refl, sym, ap, subst, ◌∙◌}
-use Rattle.std.specs.Prelude.{Option, Some, None, is_some, not, MatchOption}
+use Rattle.std.proofs.Common.{◌≡◌, ℕ, true, false, [], ◌∷◌, ◌++◌, refl, sym, ap, subst, ◌∙◌, inl, inr}
+use Rattle.std.specs.Prelude.{Option, Some, None, is_some, MatchOption, List}
 use Rattle.dht_types.specs.History.{History, PendingCall}
 use Rattle.dht_types.specs.declared.identifiers.CallNo.{CallNo}
 use Rattle.dht_types.specs.declared.identifiers.ClientNo.{ClientNo}
-use Rattle.dht_types.specs.declared.calls.Call.{Call}
 use Rattle.dht_types.specs.declared.calls.TreeStep.{TreeStep}
+use Rattle.dht_types.specs.declared.events.Event.{Event}
 use Rattle.dht_types.specs.declared.events.Event.TheVariants as event
-use Rattle.dht_types.specs.declared.lines.Cause.TheVariants.{Busy, Idle}
-use Rattle.dht_types.specs.declared.lines.Line.TheVariants.{Called, Stepped, Answered, Refused}
-use Rattle.dht_brick.specs.Kinds.{kind_of, reply_kind}
+use Rattle.dht_types.specs.declared.lines.Cause.{Cause}
+use Rattle.dht_types.specs.declared.lines.Line.{Line}
+use Rattle.dht_types.specs.declared.lines.Line.TheVariants.{Waited, Answered, Refused}
+use Rattle.dht_brick.specs.declared.replies.Reply.{Reply}
+use Rattle.dht_brick.specs.declared.replies.Reply.TheVariants.{Wait}
+use Rattle.dht_section.specs.Moves.{step_of}
+use Rattle.dht_section.specs.Stages.{is_wait}
 use Rattle.dht_section.specs.declared.machine.Ask.{Ask}
 use Rattle.dht_section.specs.declared.machine.Finish.{Finish}
-use Rattle.dht_brick.specs.declared.replies.Reply.{Reply}
-use Rattle.dht_section.specs.Scene.{step_of}
-use Rattle.dht_world.specs.Following.{Block, IsUnderStep, Head, IsStep}
-use Rattle.dht_world.specs.Lines.{tree_lines, request_lines}
-use Rattle.dht_world.proofs.WentLaws.{client}
+use Rattle.dht_world.specs.Clients.{client}
+use Rattle.dht_world.specs.Following.{Block, IsUnder, IsUnderStep, Accepted, Head, IsStep, IsWait, cause_of}
+use Rattle.dht_world.specs.Lines.{tree_lines, step_line, request_lines}
+use Rattle.dht_world.proofs.StepLaws.{lines_are}
 
-pub busy_of : (b : Bool) → not b ≡ false → b ≡ true
-busy_of true e = refl
-busy_of false e = let z : true ≡ false = e in cc
+-- an event that was refused
+pub block_refused : (s : History) (n : ℕ) (e : Event) (cause : Cause) → cause_of s e ≡ Some cause → Block s n e (Refused n cause ∷ [])
+block_refused s n e cause is = record {
+  first = Refused n cause;
+  more = [];
+  all = refl;
+  is_head = subst (λ (o : Option Cause). MatchOption o (Accepted s e (Refused n cause)) (λ x. Refused n cause ≡ Refused n x)) (sym is) refl;
+  is_under = refl;
+}
 
-pub idle_of : (b : Bool) → not b ≡ true → b ≡ false
-idle_of true e = let z : false ≡ true = e in cc
-idle_of false e = refl
+-- the head line of one that was accepted
+pub head_accepted : (s : History) (n : ℕ) (e : Event) (line : Line) → cause_of s e ≡ None → Accepted s e line → Head s n e line
+head_accepted s n e line is h = subst (λ (o : Option Cause). MatchOption o (Accepted s e line) (λ x. line ≡ Refused n x)) (sym is) h
+
+pub block_alone : (s : History) (n : ℕ) (e : Event) (line : Line) → cause_of s e ≡ None → Accepted s e line → IsUnder line [] → Block s n e (line ∷ [])
+block_alone s n e line is h under = record { first = line; more = []; all = refl; is_head = head_accepted s n e line is h; is_under = under }
 
 -- under a step stands its tree line, or none, and then the end
 under_on : (k : CallNo) (c : ClientNo) (o : Option TreeStep) → IsUnderStep k c (tree_lines k o)
@@ -35,31 +47,52 @@ under_answered : (k : CallNo) (c : ClientNo) (o : Option TreeStep) (y : Finish) 
 under_answered k c None y = (refl, refl)
 under_answered k c (Some step) y = (refl, (refl, refl))
 
-step_head : (s : History) (n : ℕ) (mine : PendingCall) (k : CallNo) (a : Ask) (r : Reply) → s.pending 0 ≡ Some mine → mine.number ≡ k → Head s n (event.Step 0) (Stepped k client a.brick (kind_of a.request) (reply_kind r))
-step_head s n mine k a r e h = subst (λ (o : Option PendingCall). MatchOption o (Stepped k client a.brick (kind_of a.request) (reply_kind r) ≡ Refused n Idle) (λ m. IsStep 0 m (Stepped k client a.brick (kind_of a.request) (reply_kind r)))) (sym e)
-    (a.brick, kind_of a.request, reply_kind r, ap (λ (x : CallNo). Stepped x client a.brick (kind_of a.request) (reply_kind r)) (sym h))
+-- what is told of a request that was answered
+pub record Told (s : History) (c : ℕ) (mine : PendingCall) (k : CallNo) (a : Ask) (r : Reply) : Type 0 where
+  pub runs : s.pending c ≡ Some mine
+  pub step : is_wait r ≡ false → IsStep s c mine (step_line k (client c) a r)
+  pub wait : (holder : ClientNo) → r ≡ Wait holder → IsWait s c mine (Waited k (client c) a.brick holder)
+
+on_by : (s : History) (n c : ℕ) (mine : PendingCall) (k : CallNo) (a : Ask) (r : Reply) (x : Reply) → r ≡ x → cause_of s (event.Step c) ≡ None → Told s c mine k a r → Block s n (event.Step c) (request_lines k (client c) a r)
+on_by s n c mine k a r (Wait holder) er is h = subst (Block s n (event.Step c)) (sym (ap (request_lines k (client c) a) er)) (record {
+  first = Waited k (client c) a.brick holder;
+  more = [];
+  all = refl;
+  is_head = head_accepted s n (event.Step c) _ is (mine, h.runs, inr (h.wait holder er));
+  is_under = tt;
+})
+on_by s n c mine k a r x er is h = subst (Block s n (event.Step c)) (sym (lines_are k (client c) a r (ap is_wait er))) (record {
+  first = step_line k (client c) a r;
+  more = tree_lines k (step_of a.request r);
+  all = refl;
+  is_head = head_accepted s n (event.Step c) _ is (mine, h.runs, inl (h.step (ap is_wait er)));
+  is_under = under_on k (client c) (step_of a.request r);
+})
 
 -- a step, after which the call goes on
-pub block_on : (s : History) (n : ℕ) (mine : PendingCall) (k : CallNo) (a : Ask) (r : Reply) → s.pending 0 ≡ Some mine → mine.number ≡ k → Block s n (event.Step 0) (request_lines k client a r)
-block_on s n mine k a r e h = record { first = Stepped k client a.brick (kind_of a.request) (reply_kind r); more = tree_lines k (step_of a.request r); all = refl; is_head = step_head s n mine k a r e h; is_under = under_on k client (step_of a.request r) }
+pub block_on : (s : History) (n c : ℕ) (mine : PendingCall) (k : CallNo) (a : Ask) (r : Reply) → cause_of s (event.Step c) ≡ None → Told s c mine k a r → Block s n (event.Step c) (request_lines k (client c) a r)
+block_on s n c mine k a r is h = on_by s n c mine k a r r refl is h
+
+answered_by : (s : History) (n c : ℕ) (mine : PendingCall) (k : CallNo) (a : Ask) (r : Reply) (y : Finish) (x : Reply) → r ≡ x → cause_of s (event.Step c) ≡ None → Told s c mine k a r → Block s n (event.Step c) (request_lines k (client c) a r ++ Answered k (client c) y.at y.answer ∷ [])
+answered_by s n c mine k a r y (Wait holder) er is h = subst (λ (xs : List Line). Block s n (event.Step c) (xs ++ Answered k (client c) y.at y.answer ∷ [])) (sym (ap (request_lines k (client c) a) er)) (record {
+  first = Waited k (client c) a.brick holder;
+  more = Answered k (client c) y.at y.answer ∷ [];
+  all = refl;
+  is_head = head_accepted s n (event.Step c) _ is (mine, h.runs, inr (h.wait holder er));
+  is_under = (refl, refl);
+})
+answered_by s n c mine k a r y x er is h = subst (λ (xs : List Line). Block s n (event.Step c) (xs ++ Answered k (client c) y.at y.answer ∷ [])) (sym (lines_are k (client c) a r (ap is_wait er))) (record {
+  first = step_line k (client c) a r;
+  more = tree_lines k (step_of a.request r) ++ Answered k (client c) y.at y.answer ∷ [];
+  all = refl;
+  is_head = head_accepted s n (event.Step c) _ is (mine, h.runs, inl (h.step (ap is_wait er)));
+  is_under = under_answered k (client c) (step_of a.request r) y;
+})
 
 -- a step, after which the call answers
-pub block_answered : (s : History) (n : ℕ) (mine : PendingCall) (k : CallNo) (a : Ask) (r : Reply) (y : Finish) → s.pending 0 ≡ Some mine → mine.number ≡ k → Block s n (event.Step 0) (request_lines k client a r ++ Answered k client y.at y.answer ∷ [])
-block_answered s n mine k a r y e h = record { first = Stepped k client a.brick (kind_of a.request) (reply_kind r); more = tree_lines k (step_of a.request r) ++ Answered k client y.at y.answer ∷ []; all = refl; is_head = step_head s n mine k a r e h; is_under = under_answered k client (step_of a.request r) y }
+pub block_answered : (s : History) (n c : ℕ) (mine : PendingCall) (k : CallNo) (a : Ask) (r : Reply) (y : Finish) → cause_of s (event.Step c) ≡ None → Told s c mine k a r → Block s n (event.Step c) (request_lines k (client c) a r ++ Answered k (client c) y.at y.answer ∷ [])
+block_answered s n c mine k a r y is h = answered_by s n c mine k a r y r refl is h
 
--- an event that was refused, and one that was accepted
-pub block_idle : (s : History) (n : ℕ) → s.pending 0 ≡ None → Block s n (event.Step 0) (Refused n Idle ∷ [])
-block_idle s n e = record { first = Refused n Idle; more = []; all = refl; is_head = subst (λ (o : Option PendingCall). MatchOption o (Refused n Idle ≡ Refused n Idle) (λ m. IsStep 0 m (Refused n Idle))) (sym e) refl; is_under = refl }
-
-pub block_busy : (s : History) (n : ℕ) (call : Call) (mine : PendingCall) → s.pending 0 ≡ Some mine → Block s n (event.Call 0 call) (Refused n Busy ∷ [])
-block_busy s n call mine e = record { first = Refused n Busy; more = []; all = refl; is_head = subst (λ (o : Option PendingCall). MatchOption o (Refused n Busy ≡ Called (record { 0 = s.calls + 1 }) client call) (λ m. Refused n Busy ≡ Refused n Busy)) (sym e) refl; is_under = refl }
-
-pub block_called : (s : History) (n : ℕ) (k : CallNo) (call : Call) → s.pending 0 ≡ None → k.0 ≡ s.calls + 1 → Block s n (event.Call 0 call) (Called k client call ∷ [])
-block_called s n k call e h = record { first = Called k client call; more = []; all = refl; is_head = subst (λ (o : Option PendingCall). MatchOption o (Called k client call ≡ Called (record { 0 = s.calls + 1 }) client call) (λ m. Called k client call ≡ Refused n Busy)) (sym e) (ap (λ (m : ℕ). Called (record { 0 = m }) client call) h); is_under = tt }
-
--- a call of a client that is idle is not refused, nor is a step of one that is busy
-pub takes_idle : {X : Type 0} (s : History) → s.pending 0 ≡ None → is_some (s.pending 0) ≡ true → X
-takes_idle s e q = absurd (let z : false ≡ true = sym (ap is_some e) ∙ q in cc)
-
-pub takes_busy : {X : Type 0} (s : History) (mine : PendingCall) → s.pending 0 ≡ Some mine → s.pending 0 ≡ None → X
-takes_busy s mine e q = absurd (let z : Some mine ≡ None = sym e ∙ q in cc)
+-- an event that is accepted is not refused
+pub not_refused : {X : Type 0} (s : History) (e : Event) → cause_of s e ≡ None → is_some (cause_of s e) ≡ true → X
+not_refused s e is h = absurd (let z : false ≡ true = sym (ap is_some is) ∙ h in cc)

@@ -1,30 +1,32 @@
 -- Bricks in a list as a disk, and their journals.
-use Rattle.std.proofs.Common.{◌≡◌, ◌≢◌, ◌<◌, ℕ, Bool, true, false, refl, sym, ◌∙◌, ap, subst, inl, inr, arith, zero, suc, List, [], ◌∷◌, ◌++◌, length, get_or}
-use Rattle.std.specs.Prelude.{Option, Some, map, slice_get, slice_set, nat_eq}
+use Rattle.std.proofs.Common.{◌≡◌, ◌≢◌, ◌<◌, ◌≤◌, ◌↔◌, ℕ, Bool, true, false, refl, sym, ◌∙◌, ap, subst, inl, inr, arith, zero, suc, List, [], ◌∷◌, ◌++◌, length, get_or}
+use Rattle.std.specs.Prelude.{Option, Some, None, map, slice_get, slice_set, nat_eq, not}
 use Rattle.std.proofs.Math.ListN.{length-set}
 use Rattle.std.proofs.lemmas.Option.{slice_get_read}
 use Rattle.dht_types.specs.Put.{put}
 use Rattle.dht_types.proofs.VolumeLemmas.{length-replay_names}
-use Rattle.dht_types.proofs.PutLaws.{put_elim, exact_nat}
+use Rattle.dht_types.proofs.PutLaws.{put_elim, put_same, put_other, exact_nat}
 use Rattle.dht_types.specs.declared.identifiers.ClientNo.{ClientNo}
 use Rattle.dht_types.specs.declared.identifiers.CallNo.{CallNo}
 use Rattle.dht_types.specs.Volume.{VolumeInfo, replay_names}
 use Rattle.dht_brick.specs.Bricks.{BrickState, ServesRequest, ServesOrFails, is_unreachable, unless_down}
 use Rattle.dht_brick.specs.Contents.{Contents}
 use Rattle.dht_brick.specs.Named.{entry_of}
-use Rattle.dht_brick.specs.Outcome.{Outcome, Serves}
+use Rattle.dht_brick.specs.Events.{freed}
 use Rattle.dht_brick.specs.Rows.{row}
 use Rattle.dht_brick.specs.Within.{MayBeSent}
 use Rattle.dht_brick.specs.declared.journal.JournalEntry.{JournalEntry}
 use Rattle.dht_brick.specs.declared.requests.NameRequest.TheVariants.{Look, Dirinfo, Create}
 use Rattle.dht_brick.specs.declared.requests.Request.{Request}
-use Rattle.dht_brick.specs.declared.requests.Request.TheVariants.{Lock, Unlock, OnNames}
+use Rattle.dht_brick.specs.declared.requests.Request.TheVariants.{Lock, Unlock, OnNames, OnFile}
 use Rattle.dht_brick.specs.declared.replies.Reply.{Reply}
-use Rattle.dht_brick.specs.declared.replies.Reply.TheVariants.{Ok as Carried, Refused as Declined, Wait, Down, Failed, NoMemory}
+use Rattle.dht_brick.specs.declared.replies.Reply.TheVariants.{Down, Failed}
 use Rattle.dht_section.specs.declared.machine.Ask.{Ask}
-use Rattle.dht_section.specs.Scene.{Scene, May}
-use Rattle.dht_section.proofs.EarlyLaws.{nat_cases}
-use Rattle.dht_world.specs.Bricks.{disk_of, journals_of, contents_at, journal_at, IsReady, ReadyAt, AreReady, volume_of, ServedAt}
+use Rattle.dht_section.specs.Permits.{May}
+use Rattle.dht_section.specs.Scene.{Scene}
+use Rattle.dht_invariant.specs.Transition.{FreesClient}
+use Rattle.dht_world.proofs.LineLaws.{nat_cases}
+use Rattle.dht_world.specs.Bricks.{disk_of, journals_of, contents_at, journal_at, IsReady, ReadyAt, AreReady, volume_of, without_client, ServedAt}
 
 pub get_set_same : {A : Type 0} (xs : List A) (c : ℕ) (v : A) → c < length xs → slice_get (slice_set xs c v) c ≡ Some v
 get_set_same [] c v h = absurd (omega arith)
@@ -46,40 +48,17 @@ set_at show bricks b x l i = put_elim (λ y. show (slice_get (slice_set bricks b
 
 -- ---- one brick that is ready
 
-reachable : (q : Request) → is_unreachable true q ≡ false
-reachable (Unlock key) = refl
-reachable q = refl
-
-not_down : (volume : VolumeInfo) (b : ℕ) (c : ClientNo) (k : CallNo) (q : Request) (old : BrickState) (r : Reply) (new : BrickState) → IsReady volume b old → ServesRequest c k q old r new → r ≢ Down
-not_down volume b c k q old r new h v = λ e. let z : false ≡ true = sym (reachable q) ∙ (ap (λ (up : Bool). is_unreachable up q) (sym h.up) ∙ v.down.0 e) in cc
-
-not_failed : (volume : VolumeInfo) (b : ℕ) (c : ClientNo) (k : CallNo) (q : Request) (old : BrickState) (r : Reply) (new : BrickState) → IsReady volume b old → ServesRequest c k q old r new → r ≢ Failed
-not_failed volume b c k q old r new h v = λ e. let z : false ≡ true = sym h.unarmed ∙ v.cause e h.faultless in cc
-
-answered : (o : Outcome Contents) (old : Contents) (r : Reply) (new : Contents) → r ≢ Down → r ≢ Failed → ServesOrFails o old r new → Serves o old r new
-answered o old (Carried given) new down failed h = h
-answered o old (Declined why) new down failed h = h
-answered o old (Wait holder) new down failed h = h
-answered o old Down new down failed h = absurd (down refl)
-answered o old Failed new down failed h = absurd (failed refl)
-answered o old NoMemory new down failed h = h
-
--- it serves a request by the row, or memory runs out
-ready_serves : (volume : VolumeInfo) (b : ℕ) (c : ClientNo) (k : CallNo) (q : Request) (old : BrickState) (r : Reply) (new : BrickState) → IsReady volume b old → ServesRequest c k q old r new → Serves (row (volume.names) c k q old.contents) old.contents r new.contents
-ready_serves volume b c k q old r new h v = answered (row (volume.names) c k q old.contents) old.contents r new.contents (not_down volume b c k q old r new h v) (not_failed volume b c k q old r new h v)
-    (subst (λ (names : List (List ℕ)). ServesOrFails (row names c k q old.contents) old.contents r new.contents) (ap (λ (known : VolumeInfo). known.names) h.volume) v.row)
+-- a reply of a brick that does not fail
+not_failed : (volume : VolumeInfo) (u : Bool) (b : ℕ) (c : ClientNo) (k : CallNo) (q : Request) (old : BrickState) (r : Reply) (new : BrickState) → IsReady volume u b old → ServesRequest c k q old r new → r ≢ Failed
+not_failed volume u b c k q old r new h v = λ e. let z : false ≡ true = sym h.unarmed ∙ v.cause e h.faultless in cc
 
 still_false : (r : Reply) (b : Bool) → b ≡ false → unless_down r b false ≡ false
 still_false Down b e = e
 still_false r b e = refl
 
-unless_is : {A : Type 0} (r : Reply) (x y : A) → r ≢ Down → unless_down r x y ≡ y
-unless_is Down x y ne = absurd (ne refl)
-unless_is r x y ne = refl
-
--- and stays ready
-ready_then : (volume : VolumeInfo) (b : ℕ) (c : ClientNo) (k : CallNo) (q : Request) (old : BrickState) (r : Reply) (new : BrickState) → IsReady volume b old → ServesRequest c k q old r new → IsReady volume b new
-ready_then volume b c k q old r new h v = record {
+-- it stays ready
+ready_then : (volume : VolumeInfo) (u : Bool) (b : ℕ) (c : ClientNo) (k : CallNo) (q : Request) (old : BrickState) (r : Reply) (new : BrickState) → IsReady volume u b old → ServesRequest c k q old r new → IsReady volume u b new
+ready_then volume u b c k q old r new h v = record {
   number = ap (λ (s : BrickState). s.number) v.same ∙ h.number;
   up = ap (λ (s : BrickState). s.is_up) v.same ∙ h.up;
   unarmed = v.disarmed ∙ still_false r old.is_armed h.unarmed;
@@ -87,12 +66,29 @@ ready_then volume b c k q old r new h v = record {
   volume = ap (λ (s : BrickState). s.volume) v.same ∙ h.volume;
 }
 
-ready_noted : (volume : VolumeInfo) (b : ℕ) (c : ClientNo) (k : CallNo) (q : Request) (old : BrickState) (r : Reply) (new : BrickState) → IsReady volume b old → ServesRequest c k q old r new → new.journal ≡ old.journal ++ entry_of c k q r ∷ []
-ready_noted volume b c k q old r new h v = v.journal ∙ unless_is r old.journal (old.journal ++ entry_of c k q r ∷ []) (not_down volume b c k q old r new h v)
-
 -- with more room it is as it was
-pub ready_roomy : (volume : VolumeInfo) (b : ℕ) (old mid : BrickState) → mid ≡ record old { spare = mid.spare } → IsReady volume b old → IsReady volume b mid
-ready_roomy volume b old mid e h = record {
+pub ready_roomy : (volume : VolumeInfo) (u : Bool) (b : ℕ) (old mid : BrickState) → mid ≡ record old { spare = mid.spare } → IsReady volume u b old → IsReady volume u b mid
+ready_roomy volume u b old mid e h = record {
+  number = ap (λ (s : BrickState). s.number) e ∙ h.number;
+  up = ap (λ (s : BrickState). s.is_up) e ∙ h.up;
+  unarmed = ap (λ (s : BrickState). s.is_armed) e ∙ h.unarmed;
+  faultless = ap (λ (s : BrickState). s.is_faultless) e ∙ h.faultless;
+  volume = ap (λ (s : BrickState). s.volume) e ∙ h.volume;
+}
+
+-- it went down, or came back
+ready_up : (volume : VolumeInfo) (u v : Bool) (b : ℕ) (old new : BrickState) → new ≡ record old { is_up = v } → IsReady volume u b old → IsReady volume v b new
+ready_up volume u v b old new e h = record {
+  number = ap (λ (s : BrickState). s.number) e ∙ h.number;
+  up = ap (λ (s : BrickState). s.is_up) e;
+  unarmed = ap (λ (s : BrickState). s.is_armed) e ∙ h.unarmed;
+  faultless = ap (λ (s : BrickState). s.is_faultless) e ∙ h.faultless;
+  volume = ap (λ (s : BrickState). s.volume) e ∙ h.volume;
+}
+
+-- a client died
+ready_freed : (volume : VolumeInfo) (u : Bool) (b c : ℕ) (old new : BrickState) → new ≡ without_client c old → IsReady volume u b old → IsReady volume u b new
+ready_freed volume u b c old new e h = record {
   number = ap (λ (s : BrickState). s.number) e ∙ h.number;
   up = ap (λ (s : BrickState). s.is_up) e ∙ h.up;
   unarmed = ap (λ (s : BrickState). s.is_armed) e ∙ h.unarmed;
@@ -102,71 +98,214 @@ ready_roomy volume b old mid e h = record {
 
 -- ---- bricks that are ready
 
-brick_is : {B : Type 0} (bricks : List B) (b : ℕ) (old : B) → b < length bricks → old ≡ get_or bricks b old → slice_get bricks b ≡ Some old
+pub brick_is : {B : Type 0} (bricks : List B) (b : ℕ) (old : B) → b < length bricks → old ≡ get_or bricks b old → slice_get bricks b ≡ Some old
 brick_is bricks b old l was = slice_get_read bricks (length bricks) b old refl l was
 
-pub ready_of : {B : Type 0} (state : B → BrickState) (ws : List ℕ) (run : ℕ) (bricks : List B) (b : ℕ) (old : B) → b < length bricks → old ≡ get_or bricks b old → AreReady state ws run bricks → IsReady (volume_of (length bricks) ws run) b (state old)
-ready_of state ws run bricks b old l was h = subst (ReadyAt state (volume_of (length bricks) ws run) b) (brick_is bricks b old l was) (h b)
+module _ {B : Type 0} (state : B → BrickState) (ws : List ℕ) (run : ℕ) where
+  pub ready_of : (down : ℕ → Bool) (bricks : List B) (b : ℕ) (old : B) → b < length bricks → old ≡ get_or bricks b old → AreReady state ws run down bricks → IsReady (volume_of (length bricks) ws run) (not (down b)) b (state old)
+  ready_of down bricks b old l was h = subst (ReadyAt state (volume_of (length bricks) ws run) (not (down b)) b) (brick_is bricks b old l was) (h b)
 
-pub ready_set : {B : Type 0} (state : B → BrickState) (ws : List ℕ) (run : ℕ) (bricks : List B) (b : ℕ) (new : B) → b < length bricks → AreReady state ws run bricks → IsReady (volume_of (length bricks) ws run) b (state new) → AreReady state ws run (slice_set bricks b new)
-ready_set state ws run bricks b new l h ready i =
-    let volume = volume_of (length bricks) ws run in
-    subst (λ (n : ℕ). ReadyAt state (volume_of n ws run) i (slice_get (slice_set bricks b new) i)) (sym (length-set bricks b new)) (elim (nat_cases i b) [
-      | inl e ↦ subst (λ (j : ℕ). ReadyAt state volume j (slice_get (slice_set bricks b new) j)) (sym e) (subst (ReadyAt state volume b) (sym (get_set_same bricks b new l)) ready)
-      | inr ne ↦ subst (ReadyAt state volume i) (sym (get_set_other bricks b new i ne)) (h i)
-    ])
+  -- one brick is set; of the others as many are up as before
+  pub ready_put : (down after : ℕ → Bool) (bricks : List B) (b : ℕ) (new : B) → b < length bricks → ((i : ℕ) → i ≢ b → after i ≡ down i) → AreReady state ws run down bricks → IsReady (volume_of (length bricks) ws run) (not (after b)) b (state new) → AreReady state ws run after (slice_set bricks b new)
+  ready_put down after bricks b new l same h ready i =
+      let volume = volume_of (length bricks) ws run in
+      subst (λ (n : ℕ). ReadyAt state (volume_of n ws run) (not (after i)) i (slice_get (slice_set bricks b new) i)) (sym (length-set bricks b new)) (elim (nat_cases i b) [
+        | inl e ↦ subst (λ (j : ℕ). ReadyAt state volume (not (after j)) j (slice_get (slice_set bricks b new) j)) (sym e) (subst (ReadyAt state volume (not (after b)) b) (sym (get_set_same bricks b new l)) ready)
+        | inr ne ↦ subst (λ (v : Bool). ReadyAt state volume (not v) i (slice_get (slice_set bricks b new) i)) (sym (same i ne))
+            (subst (ReadyAt state volume (not (down i)) i) (sym (get_set_other bricks b new i ne)) (h i))
+      ])
 
--- ---- one of them served a request
+  pub ready_set : (down : ℕ → Bool) (bricks : List B) (b : ℕ) (new : B) → b < length bricks → AreReady state ws run down bricks → IsReady (volume_of (length bricks) ws run) (not (down b)) b (state new) → AreReady state ws run down (slice_set bricks b new)
+  ready_set down bricks b new l h ready = ready_put down down bricks b new l (λ i ne. refl) h ready
 
-served_at : {B : Type 0} (state : B → BrickState) (bricks : List B) (c : ClientNo) (k : CallNo) (a : Ask) (old new : B) (r : Reply) → a.brick.0 < length bricks → old ≡ get_or bricks a.brick.0 old → Serves (row (replay_names (length bricks)) c k a.request (state old).contents) (state old).contents r (state new).contents → (state new).journal ≡ (state old).journal ++ entry_of c k a.request r ∷ [] → ServedAt state c k a bricks r (slice_set bricks a.brick.0 new)
-served_at state bricks c k a old new r l was h noted =
-    let here : slice_get bricks a.brick.0 ≡ Some old = brick_is bricks a.brick.0 old l was in
-    record {
-      after = (state new).contents;
-      served = subst (λ (x : Contents). Serves (row (replay_names (length bricks)) c k a.request x) x r (state new).contents) (sym (ap (contents_at state) here)) h;
-      changes = record { count = length-set bricks a.brick.0 new; brick = λ i. λ j. set_at (contents_at state) bricks a.brick.0 new l j i };
-      noted = (λ i. λ j. set_at (journal_at state) bricks a.brick.0 new l j i)
-          ∙ ap (λ (x : List JournalEntry). put nat_eq (journals_of state bricks) a.brick.0 x) (noted ∙ ap (λ (x : List JournalEntry). x ++ entry_of c k a.request r ∷ []) (sym (ap (journal_at state) here)));
-    }
+  -- a brick went down, or came back
+  pub ready_down : (down : ℕ → Bool) (bricks : List B) (b : ℕ) (old new : B) (v : Bool) → b < length bricks → old ≡ get_or bricks b old → state new ≡ record (state old) { is_up = v } → AreReady state ws run down bricks → AreReady state ws run (put nat_eq down b (not v)) (slice_set bricks b new)
+  ready_down down bricks b old new v l was e h =
+      ready_put down (put nat_eq down b (not v)) bricks b new l (λ i ne. put_other nat_eq exact_nat down b (not v) i ne) h
+      (subst (λ (x : Bool). IsReady (volume_of (length bricks) ws run) (not x) b (state new)) (sym (put_same nat_eq exact_nat down b (not v)))
+      (subst (λ (x : Bool). IsReady (volume_of (length bricks) ws run) x b (state new)) (twice v)
+      (ready_up (volume_of (length bricks) ws run) (not (down b)) v b (state old) (state new) e (ready_of down bricks b old l was h))))
+    where
+      twice : (x : Bool) → x ≡ not (not x)
+      twice true = refl
+      twice false = refl
 
--- as `serve_at` meets it: room was made first
-pub served_from : {B : Type 0} (state : B → BrickState) (ws : List ℕ) (run : ℕ) (bricks : List B) (c : ClientNo) (k : CallNo) (a : Ask) (old mid new : B) (r : Reply) (i : ℕ) → a.brick.0 < length bricks → i ≡ a.brick.0 → old ≡ get_or bricks i old → AreReady state ws run bricks → state mid ≡ record (state old) { spare = (state mid).spare } → ServesRequest c k a.request (state mid) r (state new) → ServedAt state c k a bricks r (slice_set bricks i new)
-served_from state ws run bricks c k a old mid new r i l e was ready room v =
-    let was_at : old ≡ get_or bricks a.brick.0 old = subst (λ (j : ℕ). old ≡ get_or bricks j old) e was in
-    let mid_ready = ready_roomy (volume_of (length bricks) ws run) a.brick.0 (state old) (state mid) room (ready_of state ws run bricks a.brick.0 old l was_at ready) in
-    subst (λ (j : ℕ). ServedAt state c k a bricks r (slice_set bricks j new)) (sym e)
-    (served_at state bricks c k a old new r l was_at
-    (subst (λ (x : Contents). Serves (row (replay_names (length bricks)) c k a.request x) x r (state new).contents) (ap (λ (s : BrickState). s.contents) room) (ready_serves (volume_of (length bricks) ws run) a.brick.0 c k a.request (state mid) r (state new) mid_ready v))
-    (ready_noted (volume_of (length bricks) ws run) a.brick.0 c k a.request (state mid) r (state new) mid_ready v ∙ ap (λ (x : List JournalEntry). x ++ entry_of c k a.request r ∷ []) (ap (λ (s : BrickState). s.journal) room)))
+  -- ---- one of them answered a request
 
-pub ready_from : {B : Type 0} (state : B → BrickState) (ws : List ℕ) (run : ℕ) (bricks : List B) (c : ClientNo) (k : CallNo) (q : Request) (old mid new : B) (r : Reply) (i : ℕ) → i < length bricks → old ≡ get_or bricks i old → AreReady state ws run bricks → state mid ≡ record (state old) { spare = (state mid).spare } → ServesRequest c k q (state mid) r (state new) → AreReady state ws run (slice_set bricks i new)
-ready_from state ws run bricks c k q old mid new r i l was ready room v =
-    ready_set state ws run bricks i new l ready (ready_then (volume_of (length bricks) ws run) i c k q (state mid) r (state new) (ready_roomy (volume_of (length bricks) ws run) i (state old) (state mid) room (ready_of state ws run bricks i old l was ready)) v)
+  served_at : (down : ℕ → Bool) (bricks : List B) (c : ClientNo) (k : CallNo) (a : Ask) (old mid new : B) (r : Reply) → a.brick.0 < length bricks → old ≡ get_or bricks a.brick.0 old → AreReady state ws run down bricks → state mid ≡ record (state old) { spare = (state mid).spare } → ServesRequest c k a.request (state mid) r (state new) → ServedAt state down c k a bricks r (slice_set bricks a.brick.0 new)
+  served_at down bricks c k a old mid new r l was ready room v =
+      let here : slice_get bricks a.brick.0 ≡ Some old = brick_is bricks a.brick.0 old l was in
+      let volume = volume_of (length bricks) ws run in
+      let is = ready_roomy volume (not (down a.brick.0)) a.brick.0 (state old) (state mid) room (ready_of down bricks a.brick.0 old l was ready) in
+      let content : (state mid).contents ≡ (disk_of state bricks).brick a.brick.0 = ap (λ (s : BrickState). s.contents) room ∙ sym (ap (contents_at state) here) in
+      let journal : (state mid).journal ≡ journals_of state bricks a.brick.0 = ap (λ (s : BrickState). s.journal) room ∙ sym (ap (journal_at state) here) in
+      record {
+        after = (state new).contents;
+        served = subst (λ (x : Contents). ServesOrFails (row (replay_names (length bricks)) c k a.request x) x r (state new).contents) content
+            (subst (λ (names : List (List ℕ)). ServesOrFails (row names c k a.request (state mid).contents) (state mid).contents r (state new).contents) (ap (λ (known : VolumeInfo). known.names) is.volume) v.row);
+        is_down = subst (λ (x : Bool). (r ≡ Down) ↔ (is_unreachable x a.request ≡ true)) is.up v.down;
+        sound = not_failed volume (not (down a.brick.0)) a.brick.0 c k a.request (state mid) r (state new) is v;
+        memory = v.memory;
+        changes = record { count = length-set bricks a.brick.0 new; brick = λ i. λ j. set_at (contents_at state) bricks a.brick.0 new l j i };
+        noted = (λ i. λ j. set_at (journal_at state) bricks a.brick.0 new l j i)
+            ∙ ap (λ (x : List JournalEntry). put nat_eq (journals_of state bricks) a.brick.0 x) (v.journal ∙ ap (λ (x : List JournalEntry). unless_down r x (x ++ entry_of c k a.request r ∷ [])) journal);
+      }
 
--- one brick was set to another in the same state
-pub same_disk_at : {B : Type 0} (state : B → BrickState) (bricks : List B) (b : ℕ) (old new : B) → b < length bricks → old ≡ get_or bricks b old → state new ≡ state old → disk_of state (slice_set bricks b new) ≡ disk_of state bricks
-same_disk_at state bricks b old new l was h =
+  -- as `serve_at` meets it: room was made first
+  pub served_from : (down : ℕ → Bool) (bricks : List B) (c : ClientNo) (k : CallNo) (a : Ask) (old mid new : B) (r : Reply) (i : ℕ) → a.brick.0 < length bricks → i ≡ a.brick.0 → old ≡ get_or bricks i old → AreReady state ws run down bricks → state mid ≡ record (state old) { spare = (state mid).spare } → ServesRequest c k a.request (state mid) r (state new) → ServedAt state down c k a bricks r (slice_set bricks i new)
+  served_from down bricks c k a old mid new r i l e was ready room v =
+      subst (λ (j : ℕ). ServedAt state down c k a bricks r (slice_set bricks j new)) (sym e)
+      (served_at down bricks c k a old mid new r l (subst (λ (j : ℕ). old ≡ get_or bricks j old) e was) ready room v)
+
+  pub ready_from : (down : ℕ → Bool) (bricks : List B) (c : ClientNo) (k : CallNo) (q : Request) (old mid new : B) (r : Reply) (i : ℕ) → i < length bricks → old ≡ get_or bricks i old → AreReady state ws run down bricks → state mid ≡ record (state old) { spare = (state mid).spare } → ServesRequest c k q (state mid) r (state new) → AreReady state ws run down (slice_set bricks i new)
+  ready_from down bricks c k q old mid new r i l was ready room v =
+      ready_set down bricks i new l ready (ready_then (volume_of (length bricks) ws run) (not (down i)) i c k q (state mid) r (state new) (ready_roomy (volume_of (length bricks) ws run) (not (down i)) i (state old) (state mid) room (ready_of down bricks i old l was ready)) v)
+
+  pub same_ready_at : (down : ℕ → Bool) (bricks : List B) (b : ℕ) (old new : B) → b < length bricks → old ≡ get_or bricks b old → state new ≡ state old → AreReady state ws run down bricks → AreReady state ws run down (slice_set bricks b new)
+  same_ready_at down bricks b old new l was h ready = ready_set down bricks b new l ready (subst (IsReady (volume_of (length bricks) ws run) (not (down b)) b) (sym h) (ready_of down bricks b old l was ready))
+
+  -- what may be sent to so many bricks may be sent to a ready one
+  pub sent_from : (down : ℕ → Bool) (bricks : List B) (q : Request) (old mid : B) (i n : ℕ) → i < length bricks → old ≡ get_or bricks i old → AreReady state ws run down bricks → state mid ≡ record (state old) { spare = (state mid).spare } → n ≡ length bricks → MayBeSent n q → MayBeSent (length (state mid).volume.names) q
+  sent_from down bricks q old mid i n l was ready room e h =
+      let mid_ready = ready_roomy (volume_of (length bricks) ws run) (not (down i)) i (state old) (state mid) room (ready_of down bricks i old l was ready) in
+      subst (λ (m : ℕ). MayBeSent m q) (e ∙ sym (ap (λ (known : VolumeInfo). length known.names) mid_ready.volume ∙ length-replay_names (length bricks))) h
+
+-- ---- a client's locks were taken away everywhere
+
+-- what stands at one place of two lists
+IsMapped : {B : Type 0} → (B → BrickState) → ℕ → Option B → Option B → Type 0
+IsMapped state c None None = Unit {0}
+IsMapped state c (Some x) (Some y) = state y ≡ without_client c (state x)
+IsMapped state c x y = ⊥
+
+-- the first so many of these, and the others as they were
+pub freed_below : ℕ → ℕ → List BrickState → List BrickState
+freed_below c n [] = []
+freed_below c zero (x ∷ xs) = x ∷ xs
+freed_below c (suc n) (x ∷ xs) = without_client c x ∷ freed_below c n xs
+
+pub length_mapped : {A X : Type 0} (f : A → X) (xs : List A) → length (map f xs) ≡ length xs
+length_mapped f [] = refl
+length_mapped f (x ∷ xs) = ap suc (length_mapped f xs)
+
+pub none_freed : (c : ℕ) (xs : List BrickState) → xs ≡ freed_below c zero xs
+unfolding freed_below
+none_freed c [] = refl
+none_freed c (x ∷ xs) = refl
+
+pub all_freed : (c n : ℕ) (xs : List BrickState) → length xs ≤ n → freed_below c n xs ≡ map (without_client c) xs
+unfolding freed_below
+all_freed c n [] l = refl
+all_freed c zero (x ∷ xs) l = absurd (omega arith)
+all_freed c (suc n) (x ∷ xs) l = ap (λ ys. without_client c x ∷ ys) (all_freed c n xs (omega arith))
+
+pub one_freed : {B : Type 0} (state : B → BrickState) (c : ℕ) (xs : List BrickState) (ys : List B) (i : ℕ) (old new : B) → i < length ys → old ≡ get_or ys i old → state new ≡ without_client c (state old) → map state ys ≡ freed_below c i xs → map state (slice_set ys i new) ≡ freed_below c (suc i) xs
+unfolding freed_below
+one_freed state c xs [] i old new l was h e = absurd (omega arith)
+one_freed state c [] (y ∷ ys) i old new l was h e = absurd (let z : suc (length (map state ys)) ≡ zero = ap length e in omega arith)
+one_freed state c (x ∷ xs) (y ∷ ys) zero old new l was h e =
+    let first : state y ≡ x = cc in
+    let rest : map state ys ≡ xs = cc in
+    (λ j. (h ∙ ap (without_client c) (ap state was ∙ first)) j ∷ (rest ∙ none_freed c xs) j)
+one_freed state c (x ∷ xs) (y ∷ ys) (suc i) old new l was h e =
+    let first : state y ≡ without_client c x = cc in
+    let rest : map state ys ≡ freed_below c i xs = cc in
+    (λ j. first j ∷ one_freed state c xs ys i old new (omega arith) was h rest j)
+
+mapped_at : {B : Type 0} (state : B → BrickState) (c : ℕ) (xs ys : List B) → map state ys ≡ map (without_client c) (map state xs) → (i : ℕ) → IsMapped state c (slice_get xs i) (slice_get ys i)
+unfolding IsMapped
+mapped_at state c [] [] e i = tt
+mapped_at state c [] (y ∷ ys) e i = absurd (let z : suc (length (map state ys)) ≡ zero = ap length e in omega arith)
+mapped_at state c (x ∷ xs) [] e i = absurd (let z : zero ≡ suc (length (map (without_client c) (map state xs))) = ap length e in omega arith)
+mapped_at state c (x ∷ xs) (y ∷ ys) e zero = let q : state y ≡ without_client c (state x) = cc in q
+mapped_at state c (x ∷ xs) (y ∷ ys) e (suc i) = mapped_at state c xs ys (let q : map state ys ≡ map (without_client c) (map state xs) = cc in q) i
+
+mapped_length : {B : Type 0} (state : B → BrickState) (c : ℕ) (xs ys : List B) → map state ys ≡ map (without_client c) (map state xs) → length ys ≡ length xs
+mapped_length state c [] [] e = refl
+mapped_length state c [] (y ∷ ys) e = absurd (let z : suc (length (map state ys)) ≡ zero = ap length e in omega arith)
+mapped_length state c (x ∷ xs) [] e = absurd (let z : zero ≡ suc (length (map (without_client c) (map state xs))) = ap length e in omega arith)
+mapped_length state c (x ∷ xs) (y ∷ ys) e = ap suc (mapped_length state c xs ys (let q : map state ys ≡ map (without_client c) (map state xs) = cc in q))
+
+contents_mapped : {B : Type 0} (state : B → BrickState) (c : ℕ) (x y : Option B) → IsMapped state c x y → (x ≢ None) → contents_at state y ≡ freed c (contents_at state x)
+unfolding IsMapped
+contents_mapped state c None None h ne = absurd (ne refl)
+contents_mapped state c None (Some y) h ne = absurd h
+contents_mapped state c (Some x) None h ne = absurd h
+contents_mapped state c (Some x) (Some y) h ne = ap (λ (s : BrickState). s.contents) h
+
+none_mapped : {B : Type 0} (state : B → BrickState) (c : ℕ) (x y : Option B) → IsMapped state c x y → x ≡ None → contents_at state y ≡ contents_at state x
+unfolding IsMapped
+none_mapped state c None None h e = refl
+none_mapped state c None (Some y) h e = absurd h
+none_mapped state c (Some x) y h e = absurd (let z : Some x ≡ None = e in cc)
+
+journal_mapped : {B : Type 0} (state : B → BrickState) (c : ℕ) (x y : Option B) → IsMapped state c x y → journal_at state y ≡ journal_at state x
+unfolding IsMapped
+journal_mapped state c None None h = refl
+journal_mapped state c None (Some y) h = absurd h
+journal_mapped state c (Some x) None h = absurd h
+journal_mapped state c (Some x) (Some y) h = ap (λ (s : BrickState). s.journal) h
+
+ready_mapped : {B : Type 0} (state : B → BrickState) (c : ℕ) (volume : VolumeInfo) (u : Bool) (b : ℕ) (x y : Option B) → IsMapped state c x y → ReadyAt state volume u b x → ReadyAt state volume u b y
+unfolding IsMapped
+ready_mapped state c volume u b None None h r = tt
+ready_mapped state c volume u b None (Some y) h r = absurd h
+ready_mapped state c volume u b (Some x) None h r = absurd h
+ready_mapped state c volume u b (Some x) (Some y) h r = ready_freed volume u b c (state x) (state y) h r
+
+pub there_is : {B : Type 0} (xs : List B) (i : ℕ) → i < length xs → slice_get xs i ≢ None
+there_is [] i l = absurd (omega arith)
+there_is (x ∷ xs) zero l = λ e. let z : Some x ≡ None = e in cc
+there_is (x ∷ xs) (suc i) l = there_is xs i (omega arith)
+
+pub none_at : {A : Type 0} (xs : List A) (c : ℕ) → length xs ≤ c → slice_get xs c ≡ None
+none_at [] c l = refl
+none_at (x ∷ xs) zero l = absurd (omega arith)
+none_at (x ∷ xs) (suc c) l = none_at xs c (omega arith)
+
+pub frees : {B : Type 0} (state : B → BrickState) (c : ℕ) (xs ys : List B) → map state ys ≡ map (without_client c) (map state xs) → FreesClient c (disk_of state xs) (disk_of state ys)
+frees state c xs ys e = record {
+  count = mapped_length state c xs ys e;
+  there = λ b l. contents_mapped state c (slice_get xs b) (slice_get ys b) (mapped_at state c xs ys e b) (there_is xs b l);
+  elsewhere = λ b l. none_mapped state c (slice_get xs b) (slice_get ys b) (mapped_at state c xs ys e b) (none_at xs b l);
+}
+
+pub freed_journals : {B : Type 0} (state : B → BrickState) (c : ℕ) (xs ys : List B) → map state ys ≡ map (without_client c) (map state xs) → journals_of state ys ≡ journals_of state xs
+freed_journals state c xs ys e = λ i. λ b. journal_mapped state c (slice_get xs b) (slice_get ys b) (mapped_at state c xs ys e b) i
+
+pub freed_ready : {B : Type 0} (state : B → BrickState) (ws : List ℕ) (run : ℕ) (down : ℕ → Bool) (c : ℕ) (xs ys : List B) → map state ys ≡ map (without_client c) (map state xs) → AreReady state ws run down xs → AreReady state ws run down ys
+freed_ready state ws run down c xs ys e h b =
+    subst (λ (n : ℕ). ReadyAt state (volume_of n ws run) (not (down b)) b (slice_get ys b)) (sym (mapped_length state c xs ys e))
+    (ready_mapped state c (volume_of (length xs) ws run) (not (down b)) b (slice_get xs b) (slice_get ys b) (mapped_at state c xs ys e b) (h b))
+
+-- one brick was set to another with the same contents, or the same journal
+shows_disk : {B : Type 0} (state : B → BrickState) (bricks : List B) (b : ℕ) (old new : B) → b < length bricks → old ≡ get_or bricks b old → (state new).contents ≡ (state old).contents → disk_of state (slice_set bricks b new) ≡ disk_of state bricks
+shows_disk state bricks b old new l was same =
     let here : slice_get bricks b ≡ Some old = brick_is bricks b old l was in
-    let same : (state new).contents ≡ (state old).contents = ap (λ (s : BrickState). s.contents) h in
     λ i. record {
       count = length-set bricks b new i;
       brick = (λ j. (set_at (contents_at state) bricks b new l j ∙ put_elim (λ y. y ≡ contents_at state (slice_get bricks j)) nat_eq exact_nat (λ m. contents_at state (slice_get bricks m)) b (state new).contents j (λ e. same ∙ (sym (ap (contents_at state) here) ∙ ap (λ (m : ℕ). contents_at state (slice_get bricks m)) (sym e))) (λ ne. refl)) i);
     }
 
-pub same_journals_at : {B : Type 0} (state : B → BrickState) (bricks : List B) (b : ℕ) (old new : B) → b < length bricks → old ≡ get_or bricks b old → state new ≡ state old → journals_of state (slice_set bricks b new) ≡ journals_of state bricks
-same_journals_at state bricks b old new l was h =
+shows_journals : {B : Type 0} (state : B → BrickState) (bricks : List B) (b : ℕ) (old new : B) → b < length bricks → old ≡ get_or bricks b old → (state new).journal ≡ (state old).journal → journals_of state (slice_set bricks b new) ≡ journals_of state bricks
+shows_journals state bricks b old new l was same =
     let here : slice_get bricks b ≡ Some old = brick_is bricks b old l was in
-    let same : (state new).journal ≡ (state old).journal = ap (λ (s : BrickState). s.journal) h in
     λ i. λ j. (set_at (journal_at state) bricks b new l j ∙ put_elim (λ y. y ≡ journal_at state (slice_get bricks j)) nat_eq exact_nat (λ m. journal_at state (slice_get bricks m)) b (state new).journal j (λ e. same ∙ (sym (ap (journal_at state) here) ∙ ap (λ (m : ℕ). journal_at state (slice_get bricks m)) (sym e))) (λ ne. refl)) i
 
-pub same_ready_at : {B : Type 0} (state : B → BrickState) (ws : List ℕ) (run : ℕ) (bricks : List B) (b : ℕ) (old new : B) → b < length bricks → old ≡ get_or bricks b old → state new ≡ state old → AreReady state ws run bricks → AreReady state ws run (slice_set bricks b new)
-same_ready_at state ws run bricks b old new l was h ready = ready_set state ws run bricks b new l ready (subst (IsReady (volume_of (length bricks) ws run) b) (sym h) (ready_of state ws run bricks b old l was ready))
+-- or in the same state
+pub same_disk_at : {B : Type 0} (state : B → BrickState) (bricks : List B) (b : ℕ) (old new : B) → b < length bricks → old ≡ get_or bricks b old → state new ≡ state old → disk_of state (slice_set bricks b new) ≡ disk_of state bricks
+same_disk_at state bricks b old new l was h = shows_disk state bricks b old new l was (ap (λ (s : BrickState). s.contents) h)
 
--- what may be sent to so many bricks may be sent to a ready one
-pub sent_from : {B : Type 0} (state : B → BrickState) (ws : List ℕ) (run : ℕ) (bricks : List B) (q : Request) (old mid : B) (i n : ℕ) → i < length bricks → old ≡ get_or bricks i old → AreReady state ws run bricks → state mid ≡ record (state old) { spare = (state mid).spare } → n ≡ length bricks → MayBeSent n q → MayBeSent (length (state mid).volume.names) q
-sent_from state ws run bricks q old mid i n l was ready room e h =
-    let mid_ready = ready_roomy (volume_of (length bricks) ws run) i (state old) (state mid) room (ready_of state ws run bricks i old l was ready) in
-    subst (λ (m : ℕ). MayBeSent m q) (e ∙ sym (ap (λ (known : VolumeInfo). length known.names) mid_ready.volume ∙ length-replay_names (length bricks))) h
+pub same_journals_at : {B : Type 0} (state : B → BrickState) (bricks : List B) (b : ℕ) (old new : B) → b < length bricks → old ≡ get_or bricks b old → state new ≡ state old → journals_of state (slice_set bricks b new) ≡ journals_of state bricks
+same_journals_at state bricks b old new l was h = shows_journals state bricks b old new l was (ap (λ (s : BrickState). s.journal) h)
+
+-- ---- a brick whose contents and journal are as they were
+
+pub up_disk_at : {B : Type 0} (state : B → BrickState) (bricks : List B) (b : ℕ) (old new : B) (v : Bool) → b < length bricks → old ≡ get_or bricks b old → state new ≡ record (state old) { is_up = v } → disk_of state (slice_set bricks b new) ≡ disk_of state bricks
+up_disk_at state bricks b old new v l was h = shows_disk state bricks b old new l was (ap (λ (s : BrickState). s.contents) h)
+
+pub up_journals_at : {B : Type 0} (state : B → BrickState) (bricks : List B) (b : ℕ) (old new : B) (v : Bool) → b < length bricks → old ≡ get_or bricks b old → state new ≡ record (state old) { is_up = v } → journals_of state (slice_set bricks b new) ≡ journals_of state bricks
+up_journals_at state bricks b old new v l was h = shows_journals state bricks b old new l was (ap (λ (s : BrickState). s.journal) h)
 
 -- what may be asked may be sent
 pub may_be_sent : (s : Scene) (b count : ℕ) (q : Request) → May s b q → MayBeSent count q
@@ -175,6 +314,8 @@ may_be_sent s b count (Unlock key) h = tt
 may_be_sent s b count (OnNames (Look d n)) h = tt
 may_be_sent s b count (OnNames (Dirinfo d)) h = tt
 may_be_sent s b count (OnNames (Create d n f)) h = tt
+may_be_sent s b count (OnNames q) h = absurd h.0
+may_be_sent s b count (OnFile q) h = absurd h.0
 may_be_sent s b count q h = absurd h
 
 -- the states of the bricks, where one of them was set to another in the same state

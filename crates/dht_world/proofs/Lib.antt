@@ -1,6 +1,14 @@
-pub mod AtLaws
-pub mod BlockLaws
 pub mod BrickLaws
 pub mod LineLaws
-pub mod StartLaws
+pub mod CountLaws
+pub mod ClientLaws
+pub mod StepLaws
 pub mod WentLaws
+pub mod AtLaws
+pub mod AdvanceLaws
+pub mod BlockLaws
+pub mod CauseLaws
+pub mod StartLaws
+pub mod PlaceLaws
+pub mod ReplyLaws
+pub mod SpentLaws

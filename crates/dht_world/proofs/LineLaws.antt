@@ -1,20 +1,22 @@
--- One more line, or several: what stays legal and in time, and what a line of one client leaves to its program.
-use Rattle.std.proofs.Common.{◌≡◌, ℕ, Bool, true, false, List, [], ◌∷◌, ◌++◌, refl, sym, ap, ◌∙◌, arith}
+-- One more line, or several: what stays legal and in time, and how journals and lists grow.
+use Rattle.std.proofs.Common.{◌≡◌, ◌≢◌, ◌⊎◌, ℕ, Bool, true, false, List, [], ◌∷◌, ◌++◌, refl, sym, ap, ◌∙◌, inl, inr}
 use Rattle.std.specs.Prelude.{None, nat_eq, if◌then◌else◌, map}
 use Rattle.dht_types.specs.Put.{put}
 use Rattle.dht_types.proofs.PutLaws.{put_elim, put_same, put_other, exact_nat}
 use Rattle.dht_types.specs.Gfid.{Entry}
-use Rattle.dht_types.specs.Tree.{Tree}
-use Rattle.dht_types.specs.History.{History, PendingCall, with_line, with_lines, start, history_of, LegalFrom, Legal, tells, is_change}
-use Rattle.dht_types.proofs.HistoryLaws.{lines_append, legal_append, past_with_line, run_with_line}
-use Rattle.dht_types.specs.declared.identifiers.ClientNo.{ClientNo}
+use Rattle.dht_types.specs.History.{History, with_line, with_lines, start, history_of, LegalFrom, Legal, is_change}
+use Rattle.dht_types.proofs.HistoryLaws.{lines_append, legal_append}
 use Rattle.dht_types.specs.declared.lines.Line.{Line}
 use Rattle.dht_brick.specs.declared.journal.JournalEntry.{JournalEntry}
-use Rattle.dht_section.specs.Disk.{Disk}
-use Rattle.dht_section.specs.Scene.{Rely}
 use Rattle.dht_world.specs.Bricks.{act_of, changed_slots}
 use Rattle.dht_world.specs.Following.{InTimeFrom}
-use Rattle.dht_world.specs.World.{scene}
+
+pub nat_cases : (x y : ℕ) → (x ≡ y) ⊎ (x ≢ y)
+nat_cases x y = by (nat_eq x y) refl
+  where
+    by : (v : Bool) → nat_eq x y ≡ v → (x ≡ y) ⊎ (x ≢ y)
+    by true e = inl ((exact_nat x y).0 e)
+    by false e = inr (λ h. let k : true ≡ false = sym ((exact_nat x y).1 h) ∙ e in cc)
 
 pub in_time_append : (s : History) (xs ys : List Line) → InTimeFrom s xs → InTimeFrom (with_lines s xs) ys → InTimeFrom s (xs ++ ys)
 in_time_append s [] ys l k = k
@@ -25,23 +27,6 @@ pub legal_lines : (past lines : List Line) → Legal past → LegalFrom (history
 legal_lines past lines l k e = record {
   from = legal_append start past lines l.from k;
   whole = ap (λ (s : History). s.owed) (lines_append start past lines) ∙ e;
-}
-
--- a line that leaves tree and volume as they are does what others may do
-pub others_line : (d : Disk) (s : History) (c : ClientNo) (r : PendingCall) (x : Line) → (tells s x).tree ≡ s.tree → (tells s x).weights ≡ s.weights → Rely (scene d s c r) (scene d (with_line s x) c r)
-others_line d s c r x et ew = record {
-  who = refl;
-  mine = refl;
-  count = refl;
-  run = run_with_line s x;
-  weights = ew;
-  locks = λ g key mode h. h;
-  slots = λ g n h b. refl;
-  names = λ g n h. ap (λ (t : Tree). t.names (g, n)) et;
-  dirs = λ g. ap (λ (t : Tree). t.dirs g) et;
-  ranges = λ g b. refl;
-  later = omega arith;
-  past = past_with_line s x;
 }
 
 map_more : {A B : Type 0} (f : A → B) (xs : List A) (x : A) → map f (xs ++ x ∷ []) ≡ map f xs ++ f x ∷ []
@@ -75,3 +60,10 @@ pub grown_at : {A B : Type 0} (g : List A → List B) (f : ℕ → List A) (h : 
 grown_at g f h k xs ys same new i = put_elim (λ x. g x ≡ put nat_eq h k ys i) nat_eq exact_nat f k xs i
     (λ e. new ∙ sym (ap (put nat_eq h k ys) e ∙ put_same nat_eq exact_nat h k ys))
     (λ ne. same i ∙ sym (put_other nat_eq exact_nat h k ys i ne))
+
+-- what stands at a place already may be put there
+put_id_at : {A : Type 0} (f : ℕ → A) (k : ℕ) (v : A) → f k ≡ v → (m : ℕ) → f m ≡ put nat_eq f k v m
+put_id_at f k v e m = put_elim (λ x. f m ≡ x) nat_eq exact_nat f k v m (λ q. ap f q ∙ e) (λ ne. refl)
+
+pub put_id : {A : Type 0} (f : ℕ → A) (k : ℕ) (v : A) → f k ≡ v → f ≡ put nat_eq f k v
+put_id f k v e = λ i. λ m. put_id_at f k v e m i

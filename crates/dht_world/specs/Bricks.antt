@@ -1,17 +1,19 @@
 -- The bricks of a world: what they contain, their journals, and that they are ready.
-use Rattle.std.specs.Prelude.{ℕ, ◌≡◌, ◌<◌, ◌≤◌, true, false, if◌then◌else◌, Option, Some, None, List, [], ◌∷◌, ◌++◌, map, length, slice_get, nat_eq}
+use Rattle.std.specs.Prelude.{ℕ, ◌≡◌, ◌≢◌, ◌<◌, ◌≤◌, ◌↔◌, Bool, true, false, not, if◌then◌else◌, Option, Some, None, List, [], ◌∷◌, ◌++◌, map, length, slice_get, nat_eq}
 use Rattle.std.specs.FinMap.{empty}
 use Rattle.dht_types.specs.Gfid.{Entry, root}
 use Rattle.dht_types.specs.History.{History, Act, is_change}
 use Rattle.dht_types.specs.Volume.{VolumeInfo, replay_names}
 use Rattle.dht_xattr.specs.Plan.{planned_value}
-use Rattle.dht_brick.specs.Bricks.{BrickState}
+use Rattle.dht_brick.specs.Bricks.{BrickState, ServesOrFails, is_unreachable, unless_down}
 use Rattle.dht_brick.specs.Contents.{Contents, newborn, no_opens, no_locks}
+use Rattle.dht_brick.specs.Events.{freed}
 use Rattle.dht_brick.specs.Named.{entry_of}
-use Rattle.dht_brick.specs.Outcome.{Serves}
+use Rattle.dht_brick.specs.Memory.{NeverTakesMemory}
 use Rattle.dht_brick.specs.Rows.{row}
 use Rattle.dht_brick.specs.declared.journal.JournalEntry.{JournalEntry}
 use Rattle.dht_brick.specs.declared.replies.Reply.{Reply}
+use Rattle.dht_brick.specs.declared.replies.Reply.TheVariants.{Down, Failed, NoMemory}
 use Rattle.dht_section.specs.declared.machine.Ask.{Ask}
 use Rattle.dht_types.specs.Put.{put}
 use Rattle.dht_types.specs.declared.identifiers.ClientNo.{ClientNo}
@@ -38,25 +40,29 @@ disk_of state bricks = record { count = length bricks; brick = λ i. contents_at
 abbrev pub journals_of : {B : Type 0} → (B → BrickState) → List B → ℕ → List JournalEntry
 journals_of state bricks i = journal_at state (slice_get bricks i)
 
--- a brick of a replay over this volume: it has this number, it is up, it never fails, and it knows the volume
-pub record IsReady (v : VolumeInfo) (b : ℕ) (s : BrickState) : Type 0 where
+-- a brick of a replay over this volume: it has this number, it is up or not, it never fails, and it knows the volume
+pub record IsReady (v : VolumeInfo) (is_up : Bool) (b : ℕ) (s : BrickState) : Type 0 where
   pub number : s.number ≡ b
-  pub up : s.is_up ≡ true
+  pub up : s.is_up ≡ is_up
   pub unarmed : s.is_armed ≡ false
   pub faultless : s.is_faultless ≡ true
   pub volume : s.volume ≡ v
 
-abbrev pub ReadyAt : {B : Type 0} → (B → BrickState) → VolumeInfo → ℕ → Option B → Type 0
-ReadyAt state v b None = Unit {0}
-ReadyAt state v b (Some brick) = IsReady v b (state brick)
+abbrev pub ReadyAt : {B : Type 0} → (B → BrickState) → VolumeInfo → Bool → ℕ → Option B → Type 0
+ReadyAt state v is_up b None = Unit {0}
+ReadyAt state v is_up b (Some brick) = IsReady v is_up b (state brick)
 
 -- the volume of so many bricks of a replay, of these weights in this run
 abbrev pub volume_of : ℕ → List ℕ → ℕ → VolumeInfo
 volume_of count ws run = record { names = replay_names count; weights = ws; run = run }
 
--- each brick is ready: its number is its place, and it knows the volume of these bricks, of these weights in this run
-abbrev pub AreReady : {B : Type 0} → (B → BrickState) → List ℕ → ℕ → List B → Type 0
-AreReady state ws run bricks = (b : ℕ) → ReadyAt state (volume_of (length bricks) ws run) b (slice_get bricks b)
+-- each brick is ready: its number is its place, it is up unless it is one of those that are down, and it knows the volume of these bricks, of these weights in this run
+abbrev pub AreReady : {B : Type 0} → (B → BrickState) → List ℕ → ℕ → (down : ℕ → Bool) → List B → Type 0
+AreReady state ws run down bricks = (b : ℕ) → ReadyAt state (volume_of (length bricks) ws run) (not (down b)) b (slice_get bricks b)
+
+-- no brick is down
+abbrev pub none_down : ℕ → Bool
+none_down b = false
 
 -- an entry, as a step line tells it
 abbrev pub act_of : JournalEntry → Act
@@ -82,9 +88,16 @@ pub record AreNewborn (ws : List ℕ) (d : Disk) (js : ℕ → List JournalEntry
   pub elsewhere : (b : ℕ) → d.count ≤ b → d.brick b ≡ nothing
   pub journals : (b : ℕ) → js b ≡ []
 
--- one brick served a request, by its row or memory ran out, and noted it; the others did not change
-pub record ServedAt {B : Type 0} (state : B → BrickState) (c : ClientNo) (k : CallNo) (a : Ask) (old : List B) (r : Reply) (new : List B) : Type 0 where
+-- a brick from which a client's locks and registrations were taken away
+abbrev pub without_client : ℕ → BrickState → BrickState
+without_client c s = record s { contents = freed c s.contents }
+
+-- one brick answered a request: that it is down, exactly where it is and the request is no unlock; else by its row, or memory ran out. It noted what it answered, unless it is down. The others did not change
+pub record ServedAt {B : Type 0} (state : B → BrickState) (down : ℕ → Bool) (c : ClientNo) (k : CallNo) (a : Ask) (old : List B) (r : Reply) (new : List B) : Type 0 where
   pub after : Contents
-  pub served : Serves (row (replay_names (length old)) c k a.request ((disk_of state old).brick a.brick.0)) ((disk_of state old).brick a.brick.0) r after
+  pub served : ServesOrFails (row (replay_names (length old)) c k a.request ((disk_of state old).brick a.brick.0)) ((disk_of state old).brick a.brick.0) r after
+  pub is_down : (r ≡ Down) ↔ (is_unreachable (not (down a.brick.0)) a.request ≡ true)
+  pub sound : r ≢ Failed
+  pub memory : NeverTakesMemory a.request → r ≢ NoMemory
   pub changes : ChangesOneBrick (disk_of state old) a.brick.0 after (disk_of state new)
-  pub noted : journals_of state new ≡ put nat_eq (journals_of state old) a.brick.0 (journals_of state old a.brick.0 ++ entry_of c k a.request r ∷ [])
+  pub noted : journals_of state new ≡ put nat_eq (journals_of state old) a.brick.0 (unless_down r (journals_of state old a.brick.0) (journals_of state old a.brick.0 ++ entry_of c k a.request r ∷ []))

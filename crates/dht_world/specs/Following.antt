@@ -1,29 +1,101 @@
 -- How the lines of a transcript come from the events of a schedule, one event after the other, and how soon a call answers.
-use Rattle.std.specs.Prelude.{ℕ, ◌+◌, ◌<◌, ◌≡◌, Some, MatchOption, List, [], ◌∷◌, ◌++◌, length}
+use Rattle.std.specs.Prelude.{ℕ, ◌+◌, ◌<◌, ◌≤◌, ◌≡◌, ◌≢◌, ◌⊎◌, ◌↔◌, Bool, true, false, nat_lt, if◌then◌else◌, Option, Some, None, is_some, MatchOption, List, [], ◌∷◌, ◌++◌, length}
 use Rattle.dht_types.specs.Cost.{cost}
-use Rattle.dht_types.specs.History.{History, PendingCall, with_line, with_lines}
+use Rattle.dht_types.specs.History.{History, PendingCall, IsUndisturbed, with_line, with_lines}
 use Rattle.dht_types.specs.declared.identifiers.BrickNo.{BrickNo}
 use Rattle.dht_types.specs.declared.identifiers.CallNo.{CallNo}
 use Rattle.dht_types.specs.declared.identifiers.ClientNo.{ClientNo}
 use Rattle.dht_types.specs.declared.events.Event.{Event}
 use Rattle.dht_types.specs.declared.events.Event.TheVariants as event
 use Rattle.dht_types.specs.declared.lines.RequestKind.{RequestKind}
+use Rattle.dht_types.specs.declared.lines.RequestKind.TheVariants.{Unlock}
 use Rattle.dht_types.specs.declared.lines.ReplyKind.{ReplyKind}
-use Rattle.dht_types.specs.declared.lines.Cause.TheVariants.{Busy, Idle}
+use Rattle.dht_types.specs.declared.lines.ReplyKind.TheVariants.{Ok as Carried, Wait, Down, Failed}
+use Rattle.dht_types.specs.declared.lines.Cause.{Cause}
+use Rattle.dht_types.specs.declared.lines.Cause.TheVariants.{Unknown, Dead, Busy, Idle}
 use Rattle.dht_types.specs.declared.lines.Line.{Line}
-use Rattle.dht_types.specs.declared.lines.Line.TheVariants.{Volume, Called, Stepped, Tree, Answered, Refused}
+use Rattle.dht_types.specs.declared.lines.Line.TheVariants.{Volume, Called, Stepped, Waited, Tree, Answered, WentDown, CameUp, Died, Refused}
 
--- a step of a call is one request to one brick
-abbrev pub IsStep : ℕ → PendingCall → Line → Type 0
-IsStep c r line = (b : BrickNo) × (q : RequestKind) × (reply : ReplyKind) × (line ≡ Stepped r.number (record { 0 = c }) b q reply)
+-- ---- which events are refused
+
+-- why an event of a client is refused: there are 64 clients, and those that died do nothing; else it may be for this
+abbrev pub client_cause : History → ℕ → Option Cause → Option Cause
+client_cause s c other = if nat_lt c 64 then (if s.dead c then Some Dead else other) else Some Unknown
+
+-- a call is refused where one of the client is pending, and a step where none is
+abbrev pub call_cause : Option PendingCall → Option Cause
+call_cause None = None
+call_cause (Some r) = Some Busy
+
+abbrev pub step_cause : Option PendingCall → Option Cause
+step_cause None = Some Idle
+step_cause (Some r) = None
+
+-- an event of a brick is refused where there is no such brick
+abbrev pub brick_cause : History → ℕ → Option Cause
+brick_cause s b = if nat_lt b (length s.weights) then None else Some Unknown
+
+-- the first cause for which an event is refused after this history, if there is one
+abbrev pub cause_of : History → Event → Option Cause
+cause_of s (event.Volume w) = None
+cause_of s (event.Call c call) = client_cause s c (call_cause (s.pending c))
+cause_of s (event.Step c) = client_cause s c (step_cause (s.pending c))
+cause_of s (event.Down b) = brick_cause s b
+cause_of s (event.Up b) = brick_cause s b
+cause_of s (event.Die c) = client_cause s c None
+
+abbrev pub is_step : Event → Bool
+is_step (event.Step c) = true
+is_step e = false
+
+-- how many step and wait lines a run has at most
+abbrev pub step_limit : ℕ
+step_limit = 200000
+
+-- the event is a step that is not refused, and the run has had all its steps
+abbrev pub IsSpent : History → Event → Type 0
+IsSpent s (event.Step c) = (cause_of s (event.Step c) ≡ None) × (step_limit ≤ s.requests)
+IsSpent s e = ⊥
+
+-- ---- the head line of an event
+
+-- a step of a call is one request to one brick. It is told that the brick is down exactly where the brick is, and the request is no unlock; an unlock is carried out
+pub record IsStep (s : History) (c : ℕ) (r : PendingCall) (line : Line) : Type 0 where
+  pub brick : BrickNo
+  pub request : RequestKind
+  pub reply : ReplyKind
+  pub is : line ≡ Stepped r.number (record { 0 = c }) brick request reply
+  pub there : brick.0 < length s.weights
+  pub down : (reply ≡ Down) ↔ ((s.down brick.0 ≡ true) × (request ≢ Unlock))
+  pub sound : (reply ≢ Failed) × (reply ≢ Wait)
+  pub unlocked : request ≡ Unlock → reply ≡ Carried
+
+-- or it waits for a lock that another client holds, a call of which is pending
+pub record IsWait (s : History) (c : ℕ) (r : PendingCall) (line : Line) : Type 0 where
+  pub brick : BrickNo
+  pub holder : ClientNo
+  pub is : line ≡ Waited r.number (record { 0 = c }) brick holder
+  pub there : brick.0 < length s.weights
+  pub up : s.down brick.0 ≡ false
+  pub other : holder.0 ≢ c
+  pub pending : is_some (s.pending holder.0) ≡ true
+
+-- the head line of an event that is accepted
+abbrev pub Accepted : History → Event → Line → Type 0
+Accepted s (event.Volume w) line = line ≡ Volume w
+-- a call has the next number
+Accepted s (event.Call c call) line = line ≡ Called (record { 0 = s.calls + 1 }) (record { 0 = c }) call
+-- a step is one of the client's pending call
+Accepted s (event.Step c) line = (r : PendingCall) × (s.pending c ≡ Some r) × (IsStep s c r line ⊎ IsWait s c r line)
+Accepted s (event.Down b) line = line ≡ WentDown (record { 0 = b })
+Accepted s (event.Up b) line = line ≡ CameUp (record { 0 = b })
+Accepted s (event.Die c) line = line ≡ Died (record { 0 = c })
 
 -- the head line of the event of the schedule's n-th line, after this history
 abbrev pub Head : History → ℕ → Event → Line → Type 0
-Head s n (event.Volume w) line = line ≡ Volume w
--- a call is accepted, and has the next number, exactly where the client is idle
-Head s n (event.Call c call) line = MatchOption (s.pending c) (line ≡ Called (record { 0 = s.calls + 1 }) (record { 0 = c }) call) (λ r. line ≡ Refused n Busy)
--- a step is accepted exactly where a call of the client is running
-Head s n (event.Step c) line = MatchOption (s.pending c) (line ≡ Refused n Idle) (λ r. IsStep c r line)
+Head s n e line = MatchOption (cause_of s e) (Accepted s e line) (λ cause. line ≡ Refused n cause)
+
+-- ---- what stands under it
 
 -- nothing, or the answer of this call of this client
 abbrev pub IsEnd : CallNo → ClientNo → List Line → Type 0
@@ -41,6 +113,10 @@ abbrev pub IsUnder : Line → List Line → Type 0
 IsUnder (Volume w) lines = lines ≡ []
 IsUnder (Called k c call) lines = IsEnd k c lines
 IsUnder (Stepped k c b q r) lines = IsUnderStep k c lines
+IsUnder (Waited k c b h) lines = IsEnd k c lines
+IsUnder (WentDown b) lines = lines ≡ []
+IsUnder (CameUp b) lines = lines ≡ []
+IsUnder (Died c) lines = lines ≡ []
 IsUnder (Refused n cause) lines = lines ≡ []
 IsUnder (Tree k step) lines = ⊥
 IsUnder (Answered k c at a) lines = ⊥
@@ -58,13 +134,19 @@ abbrev pub ComesFrom : History → ℕ → List Event → List Line → Type 0
 ComesFrom s n [] lines = lines ≡ []
 ComesFrom s n (e ∷ es) lines = (block : List Line) × (rest : List Line) × (lines ≡ block ++ rest) × Block s n e block × ComesFrom (with_lines s block) (n + 1) es rest
 
--- a call that has used up its cost takes no further step
+-- ---- how soon a call answers
+
+-- a call that nobody disturbed takes no step once it has used up its cost, and is never told to wait
 abbrev pub InTime : History → Line → Type 0
-InTime s (Stepped k c b q r) = (o : PendingCall) → s.pending c.0 ≡ Some o → o.steps < cost (length s.weights) o.call
+InTime s (Stepped k c b q r) = (o : PendingCall) → s.pending c.0 ≡ Some o → IsUndisturbed s o → o.steps < cost (length s.weights) o.call
+InTime s (Waited k c b h) = (o : PendingCall) → s.pending c.0 ≡ Some o → IsUndisturbed s o → ⊥
 InTime s (Volume w) = Unit {0}
 InTime s (Called k c call) = Unit {0}
 InTime s (Tree k step) = Unit {0}
 InTime s (Answered k c at a) = Unit {0}
+InTime s (WentDown b) = Unit {0}
+InTime s (CameUp b) = Unit {0}
+InTime s (Died c) = Unit {0}
 InTime s (Refused n cause) = Unit {0}
 
 abbrev pub InTimeFrom : History → List Line → Type 0

@@ -1,5 +1,6 @@
 pub mod Bricks
 pub mod Following
 pub mod Lines
-pub mod Places
+pub mod Clients
 pub mod World
+pub mod Places

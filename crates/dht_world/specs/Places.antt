@@ -2,44 +2,58 @@
 use Rattle.std.specs.Prelude.{ℕ, ◌≡◌, true, is_some, None, List, ◌++◌, map}
 use Rattle.dht_types.specs.History.{History, history_of}
 use Rattle.dht_types.specs.declared.events.Event.{Event}
-use Rattle.dht_types.specs.declared.events.Event.TheVariants.{Volume, Call, Step}
 use Rattle.dht_types.specs.declared.lines.Line.{Line}
 use Rattle.dht_brick.specs.declared.brick.Brick.{Ghosts as BrickGhosts}
 use Rattle.dht_section.specs.declared.caller.Caller.{Ghosts as CallerGhosts}
 use Rattle.dht_world.specs.Bricks.{disk_of, journals_of, AreReady}
-use Rattle.dht_world.specs.Following.{Block}
-use Rattle.dht_world.specs.World.{At}
+use Rattle.dht_world.specs.Following.{cause_of, Block}
+use Rattle.dht_world.specs.World.{Counts, At, HoldersCall}
 use Rattle.dht_world.specs.declared.events.World.{World}
+
+-- the numbers that it keeps
+abbrev pub counts_of : {B C : Type 0} → World B C → Counts
+counts_of w = record { run = w.run; calls = w.calls; lines = w.lines; requests = w.requests }
 
 -- the world is where these lines lead to, and its bricks are ready
 pub record IsAt {B C : Type 0} (b : BrickGhosts B) (c : CallerGhosts C) (w : World B C) (past : List Line) : Type 0 where
-  pub led : At c (disk_of b.state w.bricks.items) (journals_of b.state w.bricks.items) w.client w.weights w.run w.calls w.lines past
-  pub ready : AreReady b.state w.weights w.run w.bricks.items
+  pub led : At c (disk_of b.state w.bricks.items) (journals_of b.state w.bricks.items) w.clients.items w.weights (counts_of w) past
+  pub ready : AreReady b.state w.weights w.run (history_of past).down w.bricks.items
 
 -- nothing changed but how many lines the world has written
 pub record StaysSilent {B C : Type 0} (b : BrickGhosts B) (old new : World B C) : Type 0 where
   pub bricks : map b.state new.bricks.items ≡ map b.state old.bricks.items
-  pub client : new.client ≡ old.client
+  pub clients : new.clients ≡ old.clients
   pub weights : new.weights ≡ old.weights
   pub run : new.run ≡ old.run
   pub calls : new.calls ≡ old.calls
+  pub requests : new.requests ≡ old.requests
 
 -- nothing changed
 abbrev pub Stays : {B C : Type 0} → BrickGhosts B → World B C → World B C → Type 0
 Stays b old new = StaysSilent b old new × (new.lines ≡ old.lines)
 
--- the event is refused: a call of a client that is busy, and a step of one that is idle
+-- the event is refused, for whatever cause
 abbrev pub IsRefused : History → Event → Type 0
-IsRefused s (Volume w) = ⊥
-IsRefused s (Call c call) = is_some (s.pending c) ≡ true
-IsRefused s (Step c) = s.pending c ≡ None
+IsRefused s event = is_some (cause_of s event) ≡ true
 
--- these lines came of the event of the schedule's n-th line, and the world is where they lead to; an event that is refused changes nothing
+-- these lines came of the event of the schedule's n-th line, and the world is where they lead to, where each lock is held by a client whose call is pending; an event that is refused changes nothing
 pub record Advances {B C : Type 0} (b : BrickGhosts B) (c : CallerGhosts C) (old new : World B C) (n : ℕ) (event : Event) (past lines : List Line) : Type 0 where
   pub at : IsAt b c new (past ++ lines)
   pub block : Block (history_of past) n event lines
+  pub held : HoldersCall (disk_of b.state new.bricks.items) (history_of (past ++ lines))
   pub refused : IsRefused (history_of past) event → StaysSilent b old new
 
 -- the event's lines were appended to those of before
 abbrev pub Adds : {B C : Type 0} → BrickGhosts B → CallerGhosts C → (old new : World B C) → ℕ → Event → (past before after : List Line) → Type 0
 Adds b c old new n event past before after = (lines : List Line) × (after ≡ before ++ lines) × Advances b c old new n event past lines
+
+-- wherever the world is, the event is not refused; and it is somewhere
+pub record IsAccepted {B C : Type 0} (b : BrickGhosts B) (c : CallerGhosts C) (w : World B C) (event : Event) : Type 0 where
+  pub past : List Line
+  pub at : IsAt b c w past
+  pub accepted : (lines : List Line) → IsAt b c w lines → cause_of (history_of lines) event ≡ None
+
+-- what an event that is accepted makes of the world, whichever line of the schedule it is of
+abbrev pub Comes : {B C : Type 0} → BrickGhosts B → CallerGhosts C → (old new : World B C) → Event → (before after : List Line) → Type 0
+Comes b c old new event before after =
+    (n : ℕ) (past : List Line) → IsAt b c old past → Adds b c old new n event past before after

@@ -1,7 +1,7 @@
-//! The lines of one request, and of one event.
+//! The lines of one request.
 
 ghost use Rattle.std.specs.Prelude.{◌≡◌, ◌+◌, ◌≤◌, ◌<◌, [], ◌∷◌, ◌++◌, vec_len, vec_capacity, length};
-ghost use Rattle.dht_section.specs.Scene.{step_of};
+ghost use Rattle.dht_section.specs.Moves.{step_of};
 ghost use Rattle.dht_world.specs.Lines.{request_lines};
 
 use dht_brick::replies::Reply;
@@ -32,7 +32,7 @@ pub fn step_of(request: &Request, reply: &Reply) -> Option<TreeStep>
     }
 }
 
-/// Appends the lines of a request that was served, and gives how many they are.
+/// Appends the lines of a request that was answered, and gives how many they are.
 pub fn push_request(
     out: &mut Vec<Line>,
     call: CallNo,
@@ -46,6 +46,10 @@ pub fn push_request(
     ensures few { result ≤ 2 }
     ensures room { vec_capacity out.old ≤ vec_capacity out.new }
 {
+    if let Reply::Wait(holder) = reply {
+        push_line(out, Line::Waited(call, client, ask.brick, *holder));
+        return 1;
+    }
     push_line(
         out,
         Line::Stepped(call, client, ask.brick, ask.request.kind(), reply.kind()),

@@ -51,7 +51,7 @@ end\n\
 /// and what it writes.
 type Row = (&'static str, &'static str, u8, usize, &'static str);
 
-const RUNS: [Row; 18] = [
+const RUNS: [Row; 21] = [
     // A file is made, and then found.
     ("replay", SCHEDULE, 0, 2, TRANSCRIPT),
     // It is made once only.
@@ -160,6 +160,142 @@ dir 1 00000000-0000-0000-0000-000000000001 -\n\
 end\n\
 ",
     ),
+    // Two clients make one name: one of them waits.
+    (
+        "replay",
+        "\
+volume 2 1 0\n\
+call 0 create @ a\n\
+call 1 create @ a\n\
+step 0\n\
+step 1\n\
+step 0\n\
+step 1\n\
+step 0\n\
+step 1\n\
+step 0\n\
+step 1\n\
+step 0\n\
+step 1\n\
+step 0\n\
+step 1\n\
+step 0\n\
+step 1\n\
+step 1\n\
+step 1\n\
+step 1\n\
+",
+        0,
+        2,
+        "\
+volume 2 1 0\n\
+call 1 0 create 00000000-0000-0000-0000-000000000001 a\n\
+call 2 1 create 00000000-0000-0000-0000-000000000001 a\n\
+step 1 0 0 lock ok\n\
+step 2 1 0 lock ok\n\
+step 1 0 0 lock ok\n\
+wait 2 1 0 0\n\
+step 1 0 0 look ok\n\
+wait 2 1 0 0\n\
+step 1 0 1 look ok\n\
+wait 2 1 0 0\n\
+step 1 0 0 create ok\n\
+tree 1 add-file 00000000-0000-0000-0000-000000000001 a 00000001-0000-0000-0000-000000010000\n\
+wait 2 1 0 0\n\
+step 1 0 0 unlock ok\n\
+step 2 1 0 lock ok\n\
+step 1 0 0 unlock ok\n\
+answer 1 0 at 13 made 00000001-0000-0000-0000-000000010000\n\
+step 2 1 0 look ok\n\
+step 2 1 1 look ok\n\
+step 2 1 0 unlock ok\n\
+step 2 1 0 unlock ok\n\
+answer 2 1 at 20 eexist\n\
+brick 0 up\n\
+dir 0 00000000-0000-0000-0000-000000000001 000000000000000000000000ffffffff\n\
+slot 0 00000000-0000-0000-0000-000000000001 a data 00000001-0000-0000-0000-000000010000 -\n\
+file 0 00000001-0000-0000-0000-000000010000 live 0 1 0 e3b0c44298fc1c149afbf4c8996fb92427ae41e4649b934ca495991b7852b855\n\
+brick 1 up\n\
+dir 1 00000000-0000-0000-0000-000000000001 -\n\
+end\n\
+",
+    ),
+    // A brick goes down, a client dies, and there is no such brick.
+    (
+        "replay",
+        "\
+volume 2 1 0\n\
+down 0\n\
+call 0 lookup @ a\n\
+step 0\n\
+up 0\n\
+call 63 create @ a\n\
+step 63\n\
+step 63\n\
+die 63\n\
+call 63 lookup @ a\n\
+down 2\n\
+call 0 create @ a\n\
+step 0\n\
+step 0\n\
+step 0\n\
+down 1\n\
+step 0\n\
+step 0\n\
+step 0\n\
+",
+        0,
+        2,
+        "\
+volume 2 1 0\n\
+down 0\n\
+call 1 0 lookup 00000000-0000-0000-0000-000000000001 a\n\
+step 1 0 0 dirinfo down\n\
+answer 1 0 enotconn\n\
+up 0\n\
+call 2 63 create 00000000-0000-0000-0000-000000000001 a\n\
+step 2 63 0 lock ok\n\
+step 2 63 0 lock ok\n\
+die 63\n\
+refused 10 dead\n\
+refused 11 unknown\n\
+call 3 0 create 00000000-0000-0000-0000-000000000001 a\n\
+step 3 0 0 lock ok\n\
+step 3 0 0 lock ok\n\
+step 3 0 0 look ok\n\
+down 1\n\
+step 3 0 1 look down\n\
+step 3 0 0 unlock ok\n\
+step 3 0 0 unlock ok\n\
+answer 3 0 enotconn\n\
+brick 0 up\n\
+dir 0 00000000-0000-0000-0000-000000000001 000000000000000000000000ffffffff\n\
+brick 1 down\n\
+dir 1 00000000-0000-0000-0000-000000000001 -\n\
+end\n\
+",
+    ),
+    // There is no such client, or it has not called.
+    (
+        "replay",
+        "\
+volume 2 1 0\n\
+step 64\n\
+step 9\n\
+",
+        0,
+        2,
+        "\
+volume 2 1 0\n\
+refused 2 unknown\n\
+refused 3 idle\n\
+brick 0 up\n\
+dir 0 00000000-0000-0000-0000-000000000001 000000000000000000000000ffffffff\n\
+brick 1 up\n\
+dir 1 00000000-0000-0000-0000-000000000001 -\n\
+end\n\
+",
+    ),
     // The bricks of a volume share the root's hashes.
     (
         "replay",
@@ -183,10 +319,10 @@ end\n\
     ("replay", "volume 2 0 0\n", 3, 0, "malformed 1\n"),
     (
         "replay",
-        "volume 2 1 0\ncall 0 cre",
+        "volume 2 1 1\ncall 0 cre",
         3,
         2,
-        "volume 2 1 0\nmalformed 2\n",
+        "volume 2 1 1\nmalformed 2\n",
     ),
     (
         "replay",

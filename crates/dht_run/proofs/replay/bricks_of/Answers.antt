@@ -2,7 +2,7 @@ use Rattle.std.proofs.Common.{◌≡◌, ◌∙◌, ap, sym, subst, length, List
 use Rattle.dht_types.proofs.VolumeLemmas.{length-replay_names}
 use Rattle.dht_types.specs.Volume.{VolumeInfo, replay_names}
 use Rattle.dht_membrick.specs.State.{mem_state}
-use Rattle.dht_world.specs.Bricks.{disk_of, journals_of, AreNewborn, AreReady}
+use Rattle.dht_world.specs.Bricks.{disk_of, journals_of, none_down, AreNewborn, AreReady}
 use Rattle.dht_run.proofs.replay.bricks_of.Goals as goal
 
 pub returns-in-Ok-new_bricks-clause-count : goal.returns-in-Ok-new_bricks-clause-count
@@ -21,4 +21,4 @@ returns-in-Ok-new_bricks-clause-ready c =
     let known : c.in-Ok.volume.names ≡ replay_names (length c.in-Ok.volume.names) =
     names ∙ ap replay_names (sym (ap length names ∙ length-replay_names (length c.args.weights.now))) in
     let items = c.in-Ok-new_bricks.bricks.items in
-    subst (λ (v : VolumeInfo). AreReady mem_state v.weights v.run items) c.in-Ok.ensures.volume (c.in-Ok-new_bricks.ensures.ready known)
+    subst (λ (v : VolumeInfo). AreReady mem_state v.weights v.run none_down items) c.in-Ok.ensures.volume (c.in-Ok-new_bricks.ensures.ready known)

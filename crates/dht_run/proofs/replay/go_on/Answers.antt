@@ -1,7 +1,7 @@
 use Rattle.std.proofs.Common.{rules, ap, ◌∙◌, Ok, Err}
 use Rattle.dht_run.specs.NextEvent.{CutsEvent}
 use Rattle.dht_types.specs.Faults.{HasFault}
-use Rattle.dht_run.proofs.GoOnLaws.{so_far_more, end_reached, volume_reached, none_came, stopped_in, stopped_ends, came}
+use Rattle.dht_run.proofs.GoOnLaws.{so_far_more, end_reached, volume_reached, none_came, stopped_in, stopped_ends, limit_reached, came}
 use Rattle.dht_run.proofs.replay.go_on.Goals as goal
 
 pub returns-in-Ok-None-clause-ends : goal.returns-in-Ok-None-clause-ends
@@ -16,7 +16,7 @@ returns-in-Err-clause-ends g c = λ text before h.
     none_came g.B.Brick g.C.Caller c.events.world c.events.count c.events.reader c.next_event.new.reader text _ _ before _ c.in-Err.ending
     (λ q. c.next_event.ensures.malformed (c.in-Err.is ∙ ap Err q))
     (λ q. (c.next_event.ensures.failed_input (c.in-Err.is ∙ ap Err q), c.next_event.ensures.failed_held (c.in-Err.is ∙ ap Err q)))
-    (λ q. other.0 (c.in-Err.is ∙ ap Err q)) (λ q. other.1 (c.in-Err.is ∙ ap Err q)) (λ q. other.2 (c.in-Err.is ∙ ap Err q))
+    (λ q. other.0 (c.in-Err.is ∙ ap Err q)) (λ q. other.1 (c.in-Err.is ∙ ap Err q)) (λ q. other.2 (c.in-Err.is ∙ ap Err q)) (λ q. other.3 (c.in-Err.is ∙ ap Err q))
     (c.events.invariant.each text before h)
 
 pub returns-then-is_volume-clause-ends : goal.returns-then-is_volume-clause-ends
@@ -28,10 +28,13 @@ returns-then-is_volume-clause-ends g c = λ text before h.
 pub returns-in-Err-carry_out-clause-ends : goal.returns-in-Err-carry_out-clause-ends
 returns-in-Err-carry_out-clause-ends g c = λ text before h.
     let failed = c.in-Err-carry_out.ensures in
+    let cuts = came c.next_event.result c.in-Ok-Some.field-0 c.in-Ok-Some.event (CutsEvent c.events.reader c.next_event.new.reader (g.S.Source.left c.events.source) (g.S.Source.left c.next_event.new.source)) c.in-Ok-Some.is c.in-Ok-Some.field-0-is c.next_event.ensures.event in
+    let later = c.is_volume.ensures.other c.if-is_volume.false in
+    let so_far = c.events.invariant.each text before h in
     stopped_ends g.B.Brick g.C.Caller c.carry_out.new.world c.events.count c.next_event.new.reader text _ before _ (HasFault (g.K.Sink.faults c.events.sink) (g.K.Sink.faults c.carry_out.new.sink)) c.in-Err-carry_out.ending failed.cause
-    (stopped_in g.B.Brick g.C.Caller c.events.world c.carry_out.new.world c.events.count c.events.reader c.next_event.new.reader c.in-Ok-Some.event text _ _ before _ _
-    (came c.next_event.result c.in-Ok-Some.field-0 c.in-Ok-Some.event (CutsEvent c.events.reader c.next_event.new.reader (g.S.Source.left c.events.source) (g.S.Source.left c.next_event.new.source)) c.in-Ok-Some.is c.in-Ok-Some.field-0-is c.next_event.ensures.event)
-    (c.is_volume.ensures.other c.if-is_volume.false) failed.grows failed.err (c.events.invariant.each text before h))
+    (stopped_in g.B.Brick g.C.Caller c.events.world c.carry_out.new.world c.events.count c.events.reader c.next_event.new.reader c.in-Ok-Some.event text _ _ before _ _ cuts later failed.grows failed.err so_far)
+    (λ q. limit_reached g.B.Brick g.C.Caller c.events.world c.carry_out.new.world c.events.count c.events.reader c.next_event.new.reader c.in-Ok-Some.event text _ _ before _ _ cuts later failed.grows
+    (failed.limit (ap Err q)) so_far)
 
 pub events-preserved : goal.events-preserved
 events-preserved g c =

@@ -25,7 +25,7 @@ returns g c =
     record {
       ends = no_first mem_state c.args.bricks.now.items c.in-Ok.reader c.first_line.new.reader _ _ _ c.in-Err.ending c.requires.empty c.in-Ok.ensures.pending
           (λ q. (c.first_line.ensures.failed_input (c.in-Err.is ∙ ap Err q), c.first_line.ensures.failed_held (c.in-Err.is ∙ ap Err q))) c.in_default-ending.not-Malformed
-          (λ q. other.0 (c.in-Err.is ∙ ap Err q)) (λ q. other.1 (c.in-Err.is ∙ ap Err q)) (λ q. other.2 (c.in-Err.is ∙ ap Err q));
+          (λ q. other.0 (c.in-Err.is ∙ ap Err q)) (λ q. other.1 (c.in-Err.is ∙ ap Err q)) (λ q. other.2 (c.in-Err.is ∙ ap Err q)) (λ q. other.3 (c.in-Err.is ∙ ap Err q));
       source = λ q. c.first_line.ensures.failed (c.in-Err.is ∙ ap Err q);
       sink = λ q. absurd (other.2 (c.in-Err.is ∙ ap Err q));
     }

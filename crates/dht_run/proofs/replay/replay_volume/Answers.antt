@@ -17,3 +17,6 @@ returns-clause-ends g c = λ text first.
     let bricks : c.play-ending.new.world.bricks.items ≡ c.into_bricks.result.items = search rules in
     subst (λ bs. EndsAs mem_state bs text (g.S.Source.left c.play-ending.new.source) (g.K.Sink.taken c.args.sink.now) (g.K.Sink.taken c.play-ending.new.sink) c.play-ending.result) bricks
     (c.play-ending.ensures.ends text (subst (CutsVolume c.args.reader.now text (g.S.Source.left c.args.source.now)) (sym shown) first))
+
+pub returns-in_default-new_clients-clause-ends : goal.returns-in_default-new_clients-clause-ends
+returns-in_default-new_clients-clause-ends g c = λ text first. nothing_done mem_state c.args.bricks.now.items text _ c.requires.empty

@@ -1,15 +1,13 @@
 use Rattle.std.proofs.Common.{refl, sym, ◌∙◌, ap}
 use Rattle.std.specs.Prelude.{is_some}
-use Rattle.dht_client.proofs.ClientSteps.{program_runs, variant_before}
+use Rattle.dht_client.proofs.PartSteps.{goes_as, ends_as}
+use Rattle.dht_client.specs.Client.{client_stage, running_stage}
+use Rattle.dht_client.specs.Ended.{ended}
+use Rattle.dht_client.specs.Program.{program_stage}
 use Rattle.dht_client.proofs.calling.ClientCaller.take.Goals as goal
 
 pub returns-in-Go-clause-moves : goal.returns-in-Go-clause-moves
-returns-in-Go-clause-moves c = λ s t sound after knows moved at.
-    let q = program_runs c.args.self.now c.in-Some.program c.args.reply s t (sym c.take.ensures.value ∙ c.in-Some.is) knows moved in
-    let h = c.in-Go.ensures.moves s t sound after q.knows q.moved at in
-    (refl, h.0, variant_before c.args.self.now c.in-Some.program c.in-Go.program (sym c.take.ensures.value ∙ c.in-Some.is) h.1)
+returns-in-Go-clause-moves c = λ s t h. (refl, goes_as (client_stage c.args.self.now) (program_stage c.in-Some.program) (program_stage c.in-Go.program) (program_stage c.in-Go.program) c.args.reply c.args.at s t (ap running_stage (sym c.take.ensures.value ∙ c.in-Some.is)) refl (c.in-Go.ensures.moves s t) h)
 
 pub returns-in-Done-clause-moves : goal.returns-in-Done-clause-moves
-returns-in-Done-clause-moves c = λ s t sound after knows moved at.
-    let q = program_runs c.args.self.now c.in-Some.program c.args.reply s t (sym c.take.ensures.value ∙ c.in-Some.is) knows moved in
-    (ap is_some c.take.ensures.after, c.in-Done.ensures.moves s t sound after q.knows q.moved at)
+returns-in-Done-clause-moves c = λ s t h. (ap is_some c.take.ensures.after, ends_as (client_stage c.args.self.now) (program_stage c.in-Some.program) (ended c.in-Done.end) c.args.reply c.args.at s t (ap running_stage (sym c.take.ensures.value ∙ c.in-Some.is)) (c.in-Done.ensures.moves s t) h)

@@ -7,4 +7,7 @@ pub returns-clause-at : goal.returns-clause-at
 returns-clause-at g c =
     let bricks = c.args.bricks.items in
     let count : length bricks ≡ length c.args.weights = omega (arith, c.requires.counted, c.args.bricks.ok.0) in
-    record { led = at_start g.C.Caller (disk_of g.B.Brick.state bricks) (journals_of g.B.Brick.state bricks) c.args.client c.args.weights c.requires.newborn c.requires.heavy count (omega (arith, c.requires.some, count)) (omega (arith, c.requires.few, count)) c.requires.who c.requires.idle; ready = c.requires.ready }
+    record {
+      led = at_start g.C.Caller (disk_of g.B.Brick.state bricks) (journals_of g.B.Brick.state bricks) c.args.clients.items c.args.weights c.requires.newborn c.requires.heavy count (omega (arith, c.requires.some, count)) (omega (arith, c.requires.few, count)) (omega (arith, c.requires.many, c.args.clients.ok.0)) c.requires.idle;
+      ready = c.requires.ready;
+    }

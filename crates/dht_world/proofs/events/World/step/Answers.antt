@@ -1,97 +1,122 @@
-use Rattle.std.proofs.Common.{refl, sym, ◌≡◌, ◌∙◌, ap, subst, arith, ◌+◌, ◌<◌, ◌^◌, ℕ, List, ◌∷◌, [], ◌++◌, length, append_assoc}
+use Rattle.std.proofs.Common.{sym, ◌≡◌, ◌∙◌, ap, subst, arith, ◌<◌, ◌^◌, ℕ, List, ◌∷◌, [], ◌++◌, append_assoc, get_or}
+use Rattle.std.specs.Prelude.{Bool, vec_len}
 use Rattle.dht_types.specs.History.{history_of}
-use Rattle.dht_types.specs.declared.identifiers.CallNo.{CallNo}
+use Rattle.dht_types.specs.declared.events.Event.TheVariants as event
 use Rattle.dht_types.specs.declared.lines.Line.TheVariants.{Answered}
 use Rattle.dht_brick.specs.declared.journal.JournalEntry.{JournalEntry}
 use Rattle.dht_brick.proofs.ResultLemmas.{on_err}
 use Rattle.dht_section.specs.Disk.{Disk}
-use Rattle.dht_world.specs.Bricks.{disk_of, journals_of}
+use Rattle.dht_invariant.proofs.TransitionLaws.{transition_laws}
+use Rattle.dht_world.specs.Bricks.{disk_of, journals_of, AreReady}
+use Rattle.dht_world.specs.Clients.{client}
 use Rattle.dht_world.specs.Lines.{request_lines}
+use Rattle.dht_world.specs.Places.{counts_of}
 use Rattle.dht_world.specs.World.{At}
-use Rattle.dht_world.proofs.AtLaws.{advance, at_on, at_answered}
-use Rattle.dht_world.proofs.BlockLaws.{block_on, block_answered, busy_of, takes_busy}
-use Rattle.dht_world.proofs.WentLaws.{client}
+use Rattle.dht_world.proofs.PlaceLaws.{place_is, place_there, advances}
+use Rattle.dht_world.proofs.ReplyLaws.{step_busy, asks_there, asks_sent, step_down, answered_down, step_block, answered_block, step_on, step_answered}
 use Rattle.dht_world.proofs.events.World.step.Goals as goal
 
-pub returns-in-Some-clause-ok : goal.returns-in-Some-clause-ok
-returns-in-Some-clause-ok g c = λ past at.
+pub returns-in-Some-clause-comes : goal.returns-in-Some-clause-comes
+returns-in-Some-clause-comes g c = λ n past at.
     let w = c.args.self.now in
-    let d = disk_of g.B.Brick.state w.bricks.items in
-    let e = disk_of g.B.Brick.state c.serve_at.new.bricks.items in
-    let js = journals_of g.B.Brick.state w.bricks.items in
-    let ks = journals_of g.B.Brick.state c.serve_at.new.bricks.items in
-    let busy = busy_of (g.C.Caller.is_busy w.client) (sym c.is_idle.ensures ∙ c.if-is_idle.false) in
-    let k : CallNo = record { 0 = w.calls } in
-    let a = c.next-ask.result in
-    let r = c.in_ok-reply.reply in
-    let v = c.in_ok-reply.ensures.ok in
+    let who = c.args.client.0 in
+    let accepted = c.requires.accepted.accepted past at in
+    let there = place_there g.B.Brick g.C.Caller w past who at accepted in
     let few = c.requires.few in
     let small : w.lines < 2 ^ 64 = omega arith in
-    let adv = advance g.C.Caller g.met.C.Caller.stable g.met.C.Caller.permitted d e js ks w.client w.weights w.run w.calls w.lines past k a r v.after busy (g.met.C.Caller.goes_on w.client busy) c.next-ask.ensures refl small v.served v.changes v.noted at.led in
-    let size = adv.went.size in
-    let was = at.led.fit.same_size in
-    let xs = request_lines k client a r in
-    let count : c.push_request.result ≡ length xs = c.push_request.ensures.count in
-    let moves = c.in-Some.ensures.moves _ _ adv.before adv.after adv.works.knows adv.moved (omega arith) in
+    let here = place_is w.clients.items who c.index.result.now there.1 (subst (λ (j : ℕ). c.index.result.now ≡ get_or w.clients.items j c.index.result.now) c.from.ensures c.index.ensures) in
+    let same = place_is w.clients.items who c.index_mut-place.result.now there.1 (subst (λ (j : ℕ). c.index_mut-place.result.now ≡ get_or w.clients.items j c.index_mut-place.result.now) c.from-2.ensures c.index_mut-place.ensures.value) in
+    let k = c.next-ask.result.0 in
+    let a = c.next-ask.result.1 in
+    let v = c.next-ask.ensures in
+    let r = c.in_ok-reply.reply in
+    let bricks = c.serve_at.new.bricks.items in
+    let served = c.in_ok-reply.ensures.ok w.weights w.run (history_of past).down at.ready in
+    let xs = request_lines k (client who) a r in
     let y = c.in-Some.finish in
-    let lines = xs ++ Answered k client y.at y.answer ∷ [] in (
+    let end = Answered k (client who) y.at y.answer in
+    let lines = xs ++ end ∷ [] in (
       lines,
-      c.push_line.ensures.items ∙ (ap (λ zs. zs ++ Answered k client y.at y.answer ∷ []) c.push_request.ensures.items ∙ append_assoc c.args.out.now.items xs (Answered k client y.at y.answer ∷ [])),
-      record {
-        at = record {
-          led = subst (λ (n : ℕ). At g.C.Caller e ks c.take.new.self w.weights w.run w.calls (w.lines + n + 1) (past ++ lines)) (sym count)
-              (at_answered g.C.Caller g.met.C.Caller.stable d e js ks w.client c.take.new.self w.weights w.run w.calls w.lines past k a r y adv c.in-Some.ensures.number moves.0 moves.1 at.led);
-          ready = c.in_ok-reply.ensures.ready w.weights w.run at.ready;
-        };
-        block = block_answered (history_of past) c.args.line adv.works.mine k a r y adv.works.runs adv.call_is;
-        refused = takes_busy (history_of past) adv.works.mine adv.works.runs;
-      },
+      c.push_line.ensures.items ∙ (ap (λ zs. zs ++ end ∷ []) c.push_request.ensures.items ∙ append_assoc c.args.out.now.items xs (end ∷ [])),
+      advances g.B.Brick g.C.Caller w _ n (event.Step who) past lines
+          (record {
+            led = step_answered g.B.Brick g.C.Caller transition_laws g.met.C.Caller.stable g.met.C.Caller.permitted g.met.C.Caller.goes_on w past who c.index.result.now k a at accepted here v r bricks there.0 small served c.from-2.result c.push_request.result c.index_mut-place.result.now c.take.new.self y c.from-2.ensures same c.push_request.ensures.count c.in-Some.ensures;
+            ready = subst (λ (down : ℕ → Bool). AreReady g.B.Brick.state w.weights w.run down bricks) (sym (answered_down g.B.Brick g.C.Caller transition_laws g.met.C.Caller.stable g.met.C.Caller.permitted g.met.C.Caller.goes_on w past who c.index.result.now k a at accepted here v r bricks there.0 small served y))
+                (c.in_ok-reply.ensures.ready w.weights w.run (history_of past).down at.ready);
+          })
+          (answered_block g.B.Brick g.C.Caller transition_laws g.met.C.Caller.stable g.met.C.Caller.permitted g.met.C.Caller.goes_on w past who c.index.result.now k a at accepted here v r bricks there.0 small served n y)
+          accepted,
     )
 
-pub returns-in_default-clause-ok : goal.returns-in_default-clause-ok
-returns-in_default-clause-ok g c = λ past at.
+pub returns-in_default-clause-comes : goal.returns-in_default-clause-comes
+returns-in_default-clause-comes g c = λ n past at.
     let w = c.args.self.now in
-    let d = disk_of g.B.Brick.state w.bricks.items in
-    let e = disk_of g.B.Brick.state c.serve_at.new.bricks.items in
-    let js = journals_of g.B.Brick.state w.bricks.items in
-    let ks = journals_of g.B.Brick.state c.serve_at.new.bricks.items in
-    let busy = busy_of (g.C.Caller.is_busy w.client) (sym c.is_idle.ensures ∙ c.if-is_idle.false) in
-    let k : CallNo = record { 0 = w.calls } in
-    let a = c.next-ask.result in
-    let r = c.in_ok-reply.reply in
-    let v = c.in_ok-reply.ensures.ok in
+    let who = c.args.client.0 in
+    let accepted = c.requires.accepted.accepted past at in
+    let there = place_there g.B.Brick g.C.Caller w past who at accepted in
     let few = c.requires.few in
     let small : w.lines < 2 ^ 64 = omega arith in
-    let adv = advance g.C.Caller g.met.C.Caller.stable g.met.C.Caller.permitted d e js ks w.client w.weights w.run w.calls w.lines past k a r v.after busy (g.met.C.Caller.goes_on w.client busy) c.next-ask.ensures refl small v.served v.changes v.noted at.led in
-    let size = adv.went.size in
-    let was = at.led.fit.same_size in
-    let xs = request_lines k client a r in
-    let count : c.push_request.result ≡ length xs = c.push_request.ensures.count in
-    let moves = c.in_default.ensures.moves _ _ adv.before adv.after adv.works.knows adv.moved (omega arith) in (
+    let here = place_is w.clients.items who c.index.result.now there.1 (subst (λ (j : ℕ). c.index.result.now ≡ get_or w.clients.items j c.index.result.now) c.from.ensures c.index.ensures) in
+    let same = place_is w.clients.items who c.index_mut-place.result.now there.1 (subst (λ (j : ℕ). c.index_mut-place.result.now ≡ get_or w.clients.items j c.index_mut-place.result.now) c.from-2.ensures c.index_mut-place.ensures.value) in
+    let k = c.next-ask.result.0 in
+    let a = c.next-ask.result.1 in
+    let v = c.next-ask.ensures in
+    let r = c.in_ok-reply.reply in
+    let bricks = c.serve_at.new.bricks.items in
+    let served = c.in_ok-reply.ensures.ok w.weights w.run (history_of past).down at.ready in
+    let xs = request_lines k (client who) a r in (
       xs,
       c.push_request.ensures.items,
-      record {
-        at = record {
-          led = subst (λ (n : ℕ). At g.C.Caller e ks c.take.new.self w.weights w.run w.calls (w.lines + n) (past ++ xs)) (sym count)
-              (at_on g.C.Caller g.met.C.Caller.stable d e js ks w.client c.take.new.self w.weights w.run w.calls w.lines past k a r adv c.in_default.ensures.number moves.0 moves.1 moves.2 at.led);
-          ready = c.in_ok-reply.ensures.ready w.weights w.run at.ready;
-        };
-        block = block_on (history_of past) c.args.line adv.works.mine k a r adv.works.runs adv.call_is;
-        refused = takes_busy (history_of past) adv.works.mine adv.works.runs;
-      },
+      advances g.B.Brick g.C.Caller w _ n (event.Step who) past xs
+          (record {
+            led = step_on g.B.Brick g.C.Caller transition_laws g.met.C.Caller.stable g.met.C.Caller.permitted g.met.C.Caller.goes_on w past who c.index.result.now k a at accepted here v r bricks there.0 small served c.from-2.result c.push_request.result c.index_mut-place.result.now c.take.new.self c.from-2.ensures same c.push_request.ensures.count c.in_default.ensures;
+            ready = subst (λ (down : ℕ → Bool). AreReady g.B.Brick.state w.weights w.run down bricks) (sym (step_down g.B.Brick g.C.Caller transition_laws g.met.C.Caller.stable g.met.C.Caller.permitted g.met.C.Caller.goes_on w past who c.index.result.now k a at accepted here v r bricks there.0 small served))
+                (c.in_ok-reply.ensures.ready w.weights w.run (history_of past).down at.ready);
+          })
+          (step_block g.B.Brick g.C.Caller transition_laws g.met.C.Caller.stable g.met.C.Caller.permitted g.met.C.Caller.goes_on w past who c.index.result.now k a at accepted here v r bricks there.0 small served n)
+          accepted,
     )
-
-pub serve_at-requires-clause-ready : goal.serve_at-requires-clause-ready
-serve_at-requires-clause-ready g c =
-    let w = c.args.self.now in
-    (w.weights, (w.run, c.requires.at.1.ready))
 
 pub returns-in_err-reply-clause-err : goal.returns-in_err-reply-clause-err
 returns-in_err-reply-clause-err g c = on_err c.from_residual.result (λ past at.
     let w = c.args.self.now in
     let failed = c.in_err-reply.ensures in
     let d = disk_of g.B.Brick.state c.serve_at.new.bricks.items in record {
-      led = subst (λ (js : ℕ → List JournalEntry). At g.C.Caller d js w.client w.weights w.run w.calls w.lines past) (sym failed.journals)
-          (subst (λ (e : Disk). At g.C.Caller e (journals_of g.B.Brick.state w.bricks.items) w.client w.weights w.run w.calls w.lines past) (sym failed.disk) at.led);
-      ready = failed.ready w.weights w.run at.ready;
+      led = subst (λ (js : ℕ → List JournalEntry). At g.C.Caller d js w.clients.items w.weights (counts_of w) past) (sym failed.journals)
+          (subst (λ (e : Disk). At g.C.Caller e (journals_of g.B.Brick.state w.bricks.items) w.clients.items w.weights (counts_of w) past) (sym failed.disk) at.led);
+      ready = failed.ready w.weights w.run (history_of past).down at.ready;
     })
+
+pub serve_at-requires-clause-ready : goal.serve_at-requires-clause-ready
+serve_at-requires-clause-ready g c =
+    let w = c.args.self.now in
+    let was = c.requires.accepted in
+    (w.weights, w.run, (history_of was.past).down, was.at.ready)
+
+pub serve_at-requires-clause-there : goal.serve_at-requires-clause-there
+serve_at-requires-clause-there g c =
+    let w = c.args.self.now in
+    let was = c.requires.accepted in
+    let accepted = was.accepted was.past was.at in
+    let there = place_there g.B.Brick g.C.Caller w was.past c.args.client.0 was.at accepted in
+    let here = place_is w.clients.items c.args.client.0 c.index.result.now there.1 (subst (λ (j : ℕ). c.index.result.now ≡ get_or w.clients.items j c.index.result.now) c.from.ensures c.index.ensures) in
+    let l = asks_there g.B.Brick g.C.Caller transition_laws g.met.C.Caller.stable g.met.C.Caller.permitted g.met.C.Caller.goes_on w was.past c.args.client.0 c.index.result.now c.next-ask.result.0 c.next-ask.result.1 was.at accepted here c.next-ask.ensures in
+    omega (arith, l, w.bricks.ok.0)
+
+pub serve_at-requires-clause-sent : goal.serve_at-requires-clause-sent
+serve_at-requires-clause-sent g c =
+    let w = c.args.self.now in
+    let was = c.requires.accepted in
+    let accepted = was.accepted was.past was.at in
+    let there = place_there g.B.Brick g.C.Caller w was.past c.args.client.0 was.at accepted in
+    let here = place_is w.clients.items c.args.client.0 c.index.result.now there.1 (subst (λ (j : ℕ). c.index.result.now ≡ get_or w.clients.items j c.index.result.now) c.from.ensures c.index.ensures) in
+    asks_sent g.B.Brick g.C.Caller transition_laws g.met.C.Caller.stable g.met.C.Caller.permitted g.met.C.Caller.goes_on w was.past c.args.client.0 c.index.result.now c.next-ask.result.0 c.next-ask.result.1 was.at accepted here c.next-ask.ensures (vec_len w.bricks)
+
+pub take-requires : goal.take-requires
+take-requires g c =
+    let w = c.args.self.now in
+    let was = c.requires.accepted in
+    let accepted = was.accepted was.past was.at in
+    let there = place_there g.B.Brick g.C.Caller w was.past c.args.client.0 was.at accepted in
+    let same = place_is w.clients.items c.args.client.0 c.index_mut-place.result.now there.1 (subst (λ (j : ℕ). c.index_mut-place.result.now ≡ get_or w.clients.items j c.index_mut-place.result.now) c.from-2.ensures c.index_mut-place.ensures.value) in
+    step_busy g.B.Brick g.C.Caller transition_laws g.met.C.Caller.stable g.met.C.Caller.permitted g.met.C.Caller.goes_on w was.past c.args.client.0 c.index_mut-place.result.now was.at accepted same

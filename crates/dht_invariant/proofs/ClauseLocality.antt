@@ -1,0 +1,159 @@
+-- Each clause of the invariant reads what is shown of one thing; so a request leaves each clause on a thing that it does not name.
+use Rattle.std.proofs.Common.{◌≡◌, ◌≢◌, ◌≤◌, ℕ, arith, Bool, true, [], refl, sym, ap, ◌∙◌, subst}
+use Rattle.std.specs.Prelude.{Option, Some, None, is_some}
+use Rattle.dht_types.proofs.PutLaws.{put_other, exact_entry, exact_gfid}
+use Rattle.dht_types.specs.Gfid.{Entry, home, same_gfid}
+use Rattle.dht_types.specs.History.{History}
+use Rattle.dht_types.specs.Put.{same_entry}
+use Rattle.dht_types.specs.Tree.{Tree, IsFile}
+use Rattle.dht_types.specs.declared.identifiers.Gfid.{Gfid}
+use Rattle.dht_types.specs.declared.locks.Key.{Key}
+use Rattle.dht_types.specs.declared.locks.Mode.{Mode}
+use Rattle.dht_types.specs.declared.names.EntryKey.{EntryKey}
+use Rattle.dht_types.specs.declared.stored.DirRecord.{DirRecord}
+use Rattle.dht_brick.specs.Contents.{Store}
+use Rattle.dht_brick.specs.declared.replies.Reply.{Reply}
+use Rattle.dht_brick.specs.declared.replies.Reply.TheVariants.{Ok as Carried}
+use Rattle.dht_brick.specs.declared.requests.NameRequest.TheVariants.{Create}
+use Rattle.dht_brick.specs.declared.requests.Request.{Request}
+use Rattle.dht_brick.specs.declared.requests.Request.TheVariants.{OnNames}
+use Rattle.dht_section.specs.Claims.{Claim, Listed, places_of}
+use Rattle.dht_section.specs.Disk.{Disk, holders}
+use Rattle.dht_section.specs.Dirs.{DirInvariant, PlacedAt, CopyAt}
+use Rattle.dht_section.specs.Files.{FileInvariant}
+use Rattle.dht_section.specs.Invariant.{most_hops}
+use Rattle.dht_section.specs.Locks.{LockInvariant}
+use Rattle.dht_section.specs.Moves.{outcome_of, request_step, step_of, tree_by}
+use Rattle.dht_section.specs.Views.{DirView, cores_of, view_of, dir_view}
+use Rattle.dht_invariant.specs.Laws.{ClausesAreLocal, RequestsLeaveOthers, AnswersLeaveOthers}
+use Rattle.dht_invariant.specs.Locality.{Reach, ChangesWithin, HousedClause, ByFileRecord, OthersStand, SameDir, ShowsTheSame, SlotStays, Same, Went, reach, stored_by}
+use Rattle.dht_invariant.proofs.Frames.{name_kept, file_kept, dir_kept}
+use Rattle.dht_invariant.proofs.RowLocality.{row_within, unchanged_within}
+use Rattle.dht_invariant.proofs.ServedLaws.{served_is}
+use Rattle.dht_invariant.proofs.ViewLocality.{requests_are_local, shows_the_same}
+
+-- hops may grow with the lines
+hops_grow : (s t : History) → s.size ≤ t.size → most_hops s ≤ most_hops t
+hops_grow s t l = omega arith
+
+-- ---- directories
+
+module _ (v w : DirView) (same : SameDir v w) where
+  copy_was : (b : ℕ) (r : DirRecord) → w.copies b ≡ Some r → v.copies b ≡ Some r
+  copy_was b r h = sym (ap (λ (c : ℕ → Option DirRecord). c b) same.copies) ∙ h
+
+  there_was : (b : ℕ) → is_some (w.copies b) ≡ true → is_some (v.copies b) ≡ true
+  there_was b h = sym (ap (λ (c : ℕ → Option DirRecord). is_some (c b)) same.copies) ∙ h
+
+  placed_by : (b : ℕ) (r : DirRecord) (o : Option EntryKey) → r.place ≡ o → v.copies b ≡ Some r → PlacedAt v b r o → PlacedAt w b r o
+  placed_by b r None e there h = h
+  placed_by b r (Some k) e there h = record {
+    main = ap (λ (f : ℕ → Entry → Bool). f b (k.dir, k.name)) same.mains ∙ h.main;
+    above = h.above;
+    parent = same.above b r k there e ∙ h.parent;
+    depth = h.depth;
+  }
+
+  named_by : (b : ℕ) (e : Entry) → CopyAt v b e → CopyAt w b e
+  named_by b e h = record { copy = h.copy; there = ap (λ (c : ℕ → Option DirRecord). c b) same.copies ∙ h.there; key = h.key; place = h.place; name = h.name }
+
+  dir_stands : (count : ℕ) (g : Gfid) (known : Bool) → DirInvariant count g v known → DirInvariant count g w known
+  dir_stands count g known h = record {
+    homed = h.homed ∙ sym (ap (λ (c : ℕ → Option DirRecord). is_some (c (home g))) same.copies);
+    led = λ b l there. h.led b l (there_was b there);
+    one = λ b i r q lb li hb hi. h.one b i r q lb li (copy_was b r hb) (copy_was i q hi);
+    placed = λ b r l there. placed_by b r r.place refl (copy_was b r there) (h.placed b r l (copy_was b r there));
+    rooted = λ b r l there place. h.rooted b r l (copy_was b r there) place;
+    named = λ b e l main. named_by b e (h.named b e l (sym (ap (λ (f : ℕ → Entry → Bool). f b e) same.mains) ∙ main));
+  }
+
+-- ---- locks and slots
+
+lock_stands : (b : ℕ) (key : Key) (old new : ℕ → Option Mode) (p q : ℕ → Claim) → new ≡ old → ((c : ℕ) → Listed (p c).locks b key → Listed (q c).locks b key) → LockInvariant b key old p → LockInvariant b key new q
+lock_stands b key old new p q e listed h = subst (λ (x : ℕ → Option Mode). LockInvariant b key x q) (sym e)
+    (record { alone = h.alone; claimed = λ c m holds. listed c (h.claimed c m holds); low = h.low })
+
+housed_stands : (d e : Disk) (x : Entry) (b : ℕ) → SlotStays (d.brick b).store (e.brick b).store x → HousedClause d x b → HousedClause e x b
+housed_stands d e x b (Same slot there) h ne = there (h (λ q. ne (slot ∙ q)))
+housed_stands d e x b (Went was slot) h ne = absurd (ne slot)
+
+pub clauses_are_local : ClausesAreLocal
+clauses_are_local d e t u low top p q count higher = record {
+  names = λ x cores node h. name_kept d.count e.count (cores_of d x) (cores_of e x) (t.names x) (u.names x) count (λ i j. cores j i) node h;
+  files = λ f view bytes places h. file_kept d.count e.count low top (places_of q f) (view_of d f) (view_of e f) (t.bytes f) (u.bytes f) count view bytes higher
+      (subst (λ (x : ℕ → ℕ → ℕ). FileInvariant d.count low x (view_of d f) (t.bytes f)) (sym places) h);
+  dirs = λ g same is h. dir_kept d.count e.count g (dir_view e g) (dir_view e g) (t.dirs g) (u.dirs g) count refl is (dir_stands (dir_view d g) (dir_view e g) same d.count g (t.dirs g) h);
+  locks = λ b key holds listed h. lock_stands b key (holders d b key) (holders e b key) p q holds listed h;
+  housed = housed_stands d e;
+  roots = λ b same h. same ∙ h;
+}
+
+-- ---- the step of the tree is of what the request names
+
+tree_names : (q : Request) (s : Store) (t : Tree) (x : Entry) → (stored_by q s).slot ≢ Some x → (tree_by (request_step q) t).names x ≡ t.names x
+tree_names (OnNames (Create d n f)) s t x ne = put_other same_entry exact_entry t.names (d, n) (Some (IsFile f)) x (λ q. ne (ap Some (sym q)))
+tree_names (OnNames q) s t x ne = refl
+tree_names q s t x ne = refl
+
+tree_bytes : (q : Request) (s : Store) (t : Tree) (f : Gfid) → (stored_by q s).file ≢ Some f → (tree_by (request_step q) t).bytes f ≡ t.bytes f
+tree_bytes (OnNames (Create d n g)) s t f ne = put_other same_gfid exact_gfid t.bytes g (Some []) f (λ q. ne (ap Some (sym q)))
+tree_bytes (OnNames q) s t f ne = refl
+tree_bytes q s t f ne = refl
+
+tree_dirs : (q : Request) (t : Tree) (g : Gfid) → (tree_by (request_step q) t).dirs g ≡ t.dirs g
+tree_dirs (OnNames (Create d n f)) t g = refl
+tree_dirs (OnNames q) t g = refl
+tree_dirs q t g = refl
+
+step_names : (q : Request) (r : Reply) (s : Store) (t : Tree) (x : Entry) → (stored_by q s).slot ≢ Some x → (tree_by (step_of q r) t).names x ≡ t.names x
+step_names q (Carried given) s t x ne = tree_names q s t x ne
+step_names q r s t x ne = refl
+
+step_bytes : (q : Request) (r : Reply) (s : Store) (t : Tree) (f : Gfid) → (stored_by q s).file ≢ Some f → (tree_by (step_of q r) t).bytes f ≡ t.bytes f
+step_bytes q (Carried given) s t f ne = tree_bytes q s t f ne
+step_bytes q r s t f ne = refl
+
+step_dirs : (q : Request) (r : Reply) (t : Tree) (g : Gfid) → (tree_by (step_of q r) t).dirs g ≡ t.dirs g
+step_dirs q (Carried given) t g = tree_dirs q t g
+step_dirs q r t g = refl
+
+-- ---- the clauses on what is not named
+
+-- the tree is as it was, but for the name and the file
+record TreeStays (p : Reach) (t u : Tree) : Type 0 where
+  names : (x : Entry) → p.stored.slot ≢ Some x → u.names x ≡ t.names x
+  bytes : (f : Gfid) → p.stored.file ≢ Some f → u.bytes f ≡ t.bytes f
+  dirs : (g : Gfid) → u.dirs g ≡ t.dirs g
+
+others_stand : (p : Reach) (b : ℕ) (d e : Disk) (t u : Tree) (low top : ℕ) (claims : ℕ → Claim) → ShowsTheSame p b d e → TreeStays p t u → low ≤ top → OthersStand p b d e t u low top claims
+others_stand p b d e t u low top claims shown tree higher =
+    let stand = clauses_are_local d e t u low top claims claims shown.count higher in
+    record {
+      names = λ x out h. stand.names x (shown.names x out) (tree.names x out) h;
+      files = λ f out h. stand.files f (shown.files f out) (tree.bytes f (λ k. out (ByFileRecord k))) refl h;
+      dirs = λ g out h. stand.dirs g (shown.dirs g out) (tree.dirs g) h;
+      locks = λ i key out h. stand.locks i key (shown.locks i key out) (λ c l. l) h;
+      housed = λ x i out h. stand.housed x i (shown.slots x i out) h;
+      roots = λ i out h. stand.roots i (shown.roots i out) h;
+    }
+
+pub requests_leave_others : RequestsLeaveOthers
+requests_leave_others client call b q d e t low top claims carried higher =
+    let s = (d.brick b).store in
+    others_stand (reach client call q s) b d e t (tree_by (request_step q) t) low top claims (requests_are_local client call b q d e carried)
+    (record { names = λ x ne. tree_names q s t x ne; bytes = λ f ne. tree_bytes q s t f ne; dirs = λ g. tree_dirs q t g }) higher
+
+pub answers_leave_others : AnswersLeaveOthers
+answers_leave_others s t a r m =
+    let old = s.disk.brick a.brick.0 in
+    let p = reach s.who s.mine.number a.request old.store in
+    let tree = s.history.tree in
+    let changed : ChangesWithin p old m.new = served_is (ChangesWithin p old) (outcome_of s a) old m.real m.new (row_within _ s.who s.mine.number a.request old) (unchanged_within p old) m.served in
+    others_stand p a.brick.0 s.disk t.disk tree t.history.tree (most_hops s.history) (most_hops t.history) s.claims
+    (shows_the_same p a.brick.0 s.disk t.disk m.new m.disk changed)
+    (record {
+      names = λ x ne. ap (λ (u : Tree). u.names x) m.tree ∙ step_names a.request m.real old.store tree x ne;
+      bytes = λ f ne. ap (λ (u : Tree). u.bytes f) m.tree ∙ step_bytes a.request m.real old.store tree f ne;
+      dirs = λ g. ap (λ (u : Tree). u.dirs g) m.tree ∙ step_dirs a.request m.real tree g;
+    })
+    (hops_grow s.history t.history m.later)

@@ -1,0 +1,102 @@
+-- What follows of names and files while calls only look for files and make them.
+use Rattle.std.proofs.Common.{◌≡◌, ◌≢◌, ◌<◌, ℕ, Bool, refl, sym, ap, ◌∙◌, subst, inl, inr, ◌⊎◌}
+use Rattle.std.specs.Prelude.{Option, Some, None}
+use Rattle.dht_types.specs.Gfid.{Entry, home}
+use Rattle.dht_types.specs.Tree.{Node, IsFile}
+use Rattle.dht_types.specs.declared.identifiers.Gfid.{Gfid}
+use Rattle.dht_types.specs.declared.identifiers.BrickNo.{BrickNo}
+use Rattle.dht_types.specs.declared.stored.Main.TheVariants.{Dir, File}
+use Rattle.dht_types.specs.declared.stored.Standby.{Standby}
+use Rattle.dht_types.specs.declared.stored.Standby.TheVariants.{StandLink, Copy}
+use Rattle.dht_types.specs.declared.stored.Slot.{Slot}
+use Rattle.dht_brick.specs.Contents.{bare}
+use Rattle.dht_section.specs.Disk.{Disk, file_in, slot_at}
+use Rattle.dht_section.specs.Truth.{plain}
+use Rattle.dht_section.specs.Early.{IsPlain}
+use Rattle.dht_section.specs.Scene.{Scene, Sound}
+use Rattle.dht_section.specs.Names.{NameInvariant}
+use Rattle.dht_section.specs.Shapes.{NameShape, Bare, Folder, Plain, Marked, Contested, Standing, Copied, Committed, NameFits, when_on, core_at, node_of}
+use Rattle.dht_section.specs.Views.{core, cores_of}
+use Rattle.dht_invariant.proofs.Basics.{here_at, here_off}
+
+-- the slot of a name that is no file's
+pub bare_by : (p : Slot) → IsPlain p → file_in p ≡ None → p ≡ bare
+bare_by p h e = elim h [
+  | inl q ↦ q
+  | inr q ↦ absurd (let z : Some q.0 ≡ None = sym (ap file_in q.1) ∙ e in cc)
+]
+
+-- a plain slot has no linkto
+pub core_plain : (p : Slot) → IsPlain p → core p ≡ p
+core_plain p h = elim h [
+  | inl q ↦ subst (λ (x : Slot). core x ≡ x) (sym q) refl
+  | inr q ↦ subst (λ (x : Slot). core x ≡ x) (sym q.1) refl
+]
+
+-- no directory, no mark and no standby part
+no_directory : (p : Slot) (g : Gfid) → IsPlain p → p.main ≡ Some (Dir g) → ⊥
+no_directory p g h e = elim h [
+  | inl q ↦ (let z : None ≡ Some (Dir g) = ap (λ (x : Slot). x.main) (sym q) ∙ e in cc)
+  | inr q ↦ (let z : Some (File q.0 None) ≡ Some (Dir g) = ap (λ (x : Slot). x.main) (sym q.1) ∙ e in cc)
+]
+
+no_mark : (p : Slot) (f : Gfid) (x : BrickNo) → IsPlain p → p.main ≡ Some (File f (Some x)) → ⊥
+no_mark p f x h e = elim h [
+  | inl q ↦ (let z : None ≡ Some (File f (Some x)) = ap (λ (y : Slot). y.main) (sym q) ∙ e in cc)
+  | inr q ↦ (let z : Some (File q.0 None) ≡ Some (File f (Some x)) = ap (λ (y : Slot). y.main) (sym q.1) ∙ e in cc)
+]
+
+no_standby : (p : Slot) (x : Standby) → IsPlain p → p.standby ≡ Some x → ⊥
+no_standby p x h e = elim h [
+  | inl q ↦ (let z : None ≡ Some x = ap (λ (y : Slot). y.standby) (sym q) ∙ e in cc)
+  | inr q ↦ (let z : None ≡ Some x = ap (λ (y : Slot). y.standby) (sym q.1) ∙ e in cc)
+]
+
+-- where all slots of a name are plain, it is bare or a file's
+pub plain_shape : (count : ℕ) (h : NameShape) → NameFits count h → ((b : ℕ) → b < count → IsPlain (core_at h b)) → (h ≡ Bare) ⊎ ((b : ℕ) × (f : Gfid) × (h ≡ Plain b f))
+plain_shape count Bare fits p = inl refl
+plain_shape count (Folder g on) fits p = absurd (no_directory _ g (p (home g) fits.0) (ap (λ (v : Bool). when_on v (Dir g)) fits.1))
+plain_shape count (Plain b f) fits p = inr (b, f, refl)
+plain_shape count (Marked b f x) fits p = absurd (no_mark _ f x (p b fits.0) (here_at (Some (File f (Some x))) b))
+plain_shape count (Contested b f x g) fits p = absurd (no_mark _ f x (p b fits.0) (here_at (Some (File f (Some x))) b))
+plain_shape count (Standing x g) fits p = absurd (no_standby _ (StandLink g) (p x fits) (here_at (Some (StandLink g)) x))
+plain_shape count (Copied b f t) fits p = absurd (no_standby _ (Copy f) (p t fits.1) (here_at (Some (Copy f)) t))
+plain_shape count (Committed t f) fits p = absurd (no_standby _ (Copy f) (p t fits) (here_at (Some (Copy f)) t))
+
+-- nothing stands at the name
+pub record StandsNowhere (d : Disk) (x : Entry) (told : Option Node) : Type 0 where
+  pub node : told ≡ None
+  pub bare : (b : ℕ) → b < d.count → slot_at d b x ≡ bare
+
+-- the name is a file's on one brick, and nothing stands there on any other
+pub record StandsOnce (d : Disk) (x : Entry) (told : Option Node) : Type 0 where
+  pub brick : ℕ
+  pub there : brick < d.count
+  pub file : Gfid
+  pub node : told ≡ Some (IsFile file)
+  pub slot : slot_at d brick x ≡ plain file
+  pub alone : (b : ℕ) → b < d.count → b ≢ brick → slot_at d b x ≡ bare
+
+-- a name whose slots are plain stands so
+pub stands_plainly : (d : Disk) (x : Entry) (told : Option Node) → NameInvariant d.count (cores_of d x) told → ((b : ℕ) → b < d.count → IsPlain (slot_at d b x)) → StandsNowhere d x told ⊎ StandsOnce d x told
+stands_plainly d x told n p = elim (plain_shape d.count n.0 n.1.fits shape_plain) [
+  | inl q ↦ inl (record { node = n.1.node ∙ ap node_of q; bare = λ b l. is_at b l ∙ ap (λ h. core_at h b) q })
+  | inr q ↦ inr (record {
+    brick = q.0;
+    there = subst (NameFits d.count) q.2 n.1.fits;
+    file = q.1;
+    node = n.1.node ∙ ap node_of q.2;
+    slot = is_at q.0 (subst (NameFits d.count) q.2 n.1.fits) ∙ (ap (λ h. core_at h q.0) q.2 ∙ ap (λ m. let s : Slot = record { main = m; standby = None } in s) (here_at (Some (File q.1 None)) q.0));
+    alone = λ b l ne. is_at b l ∙ (ap (λ h. core_at h b) q.2 ∙ ap (λ m. let s : Slot = record { main = m; standby = None } in s) (here_off (Some (File q.1 None)) q.0 b ne));
+  })
+]
+  where
+    is_at : (b : ℕ) → b < d.count → slot_at d b x ≡ core_at n.0 b
+    is_at b l = sym (core_plain (slot_at d b x) (p b l)) ∙ n.1.has b l
+
+    shape_plain : (b : ℕ) → b < d.count → IsPlain (core_at n.0 b)
+    shape_plain b l = subst IsPlain (is_at b l) (p b l)
+
+-- so does each name of a sound scene
+pub name_stands : (s : Scene) (x : Entry) → Sound s → StandsNowhere s.disk x (s.history.tree.names x) ⊎ StandsOnce s.disk x (s.history.tree.names x)
+name_stands s x sound = stands_plainly s.disk x (s.history.tree.names x) (sound.kept.things.names x) (sound.early.plain x)

@@ -1,0 +1,98 @@
+-- What all others together may do between two requests of mine.
+use Rattle.std.specs.Prelude.{ℕ, true, ◌<◌, ◌≤◌, ◌≡◌, ◌≢◌, ◌⊎◌, Option, Some, None, List, slice_index_or}
+use Rattle.dht_types.specs.Gfid.{Entry}
+use Rattle.dht_types.specs.History.{PendingCall}
+use Rattle.dht_types.specs.Tree.{Tree}
+use Rattle.dht_types.specs.declared.identifiers.Gfid.{Gfid}
+use Rattle.dht_types.specs.declared.identifiers.BrickNo.{BrickNo}
+use Rattle.dht_types.specs.declared.locks.Key.{Key}
+use Rattle.dht_types.specs.declared.stored.DirRecord.{DirRecord}
+use Rattle.dht_types.specs.declared.stored.Record.{Record}
+use Rattle.dht_types.specs.declared.stored.Record.TheVariants as stored
+use Rattle.dht_xattr.specs.Plan.{planned}
+use Rattle.dht_xattr.specs.declared.range.Range.{Range}
+use Rattle.dht_section.specs.Disk.{Disk, slot_at, file_at, dir_at, range_of, holders}
+use Rattle.dht_section.specs.Scene.{Scene, HoldsDir, Guards, NameStands}
+use Rattle.dht_section.specs.Shapes.{NameShape, Grows}
+use Rattle.dht_section.specs.Views.{core, links_to, view_of}
+
+-- a record without its bytes: what only who guards a name of the file may change
+pub data Outline : Type 0 where
+  NoRecord : Outline
+  IsLive : ℕ → Outline
+  IsMoving : ℕ → BrickNo → Outline
+  IsStandby : ℕ → BrickNo → Gfid → List ℕ → Outline
+  IsForward : ℕ → BrickNo → Outline
+
+abbrev pub outline : Option Record → Outline
+outline None = NoRecord
+outline (Some (stored.Live hop bytes)) = IsLive hop
+outline (Some (stored.Moving hop t bytes)) = IsMoving hop t
+outline (Some (stored.Standby c)) = IsStandby c.hop c.source c.dir c.name
+outline (Some (stored.Forward hop brick)) = IsForward hop brick
+
+-- the hashes of a range, whatever its commit word
+abbrev pub bounds : Option Range → Option (ℕ × ℕ)
+bounds None = None
+bounds (Some r) = Some (r.first, r.last)
+
+-- each brick has the planned range of the directory, or none
+abbrev pub AllPlanned : Disk → List ℕ → Gfid → Type 0
+AllPlanned d weights g =
+    (b : ℕ) (r : DirRecord) → b < d.count → dir_at d b g ≡ Some r
+    → (bounds (range_of (Some r)) ≡ None)
+    ⊎ (bounds (range_of (Some r)) ≡ bounds (slice_index_or (planned weights g) b None))
+
+-- a copy of a directory stays, but that its commit word may be cleared
+pub record CopyStays (r q : DirRecord) : Type 0 where
+  pub place : q.place ≡ r.place
+  pub depth : q.depth ≡ r.depth
+  pub hashes : bounds (range_of (Some q)) ≡ bounds (range_of (Some r))
+
+-- lines of others leave my call as it is, but for the count of its steps
+pub record SameCall (r q : PendingCall) : Type 0 where
+  pub number : q.number ≡ r.number
+  pub call : q.call ≡ r.call
+  pub since : q.since ≡ r.since
+  pub alone : q.alone ≡ r.alone
+  pub was_down : q.was_down ≡ r.was_down
+  pub has_failed : q.has_failed ≡ r.has_failed
+  pub deeds : q.deeds ≡ r.deeds
+
+-- the gfid is used as a file's: the tree has bytes of it, or a brick has a record or a seal
+pub data IsFileUsed (d : Disk) (t : Tree) (f : Gfid) : Type 0 where
+  ByBytes : t.bytes f ≢ None → IsFileUsed d t f
+  ByRecord : (b : ℕ) (r : Record) → b < d.count → file_at d b f ≡ Some r → IsFileUsed d t f
+  BySeal : (view_of d f).sealed ≡ true → IsFileUsed d t f
+
+pub record Rely (s t : Scene) : Type 0 where
+  pub who : t.who ≡ s.who
+  pub mine : SameCall s.mine t.mine
+  pub count : t.disk.count ≡ s.disk.count
+  pub run : t.history.run ≡ s.history.run
+  pub weights : t.history.weights ≡ s.history.weights
+  pub locks : (b : ℕ) (key : Key) → holders t.disk b key s.who.0 ≡ holders s.disk b key s.who.0
+  -- a name that I guard keeps its shape, or others finish what may be finished; and its linktos
+  pub names : (e : Entry) (h : NameShape)
+      → Guards s e → NameStands s e h → (k : NameShape) × Grows h k × NameStands t e k
+  pub slots : (e : Entry) (b : ℕ)
+      → Guards s e → core (slot_at t.disk b e) ≡ core (slot_at s.disk b e)
+      → slot_at t.disk b e ≡ slot_at s.disk b e
+  -- the record of a file on the brick where a name that I guard is it, keeps all but its bytes
+  pub outlines : (e : Entry) (b : ℕ) (f : Gfid)
+      → Guards s e → b < s.disk.count → links_to f (slot_at s.disk b e) ≡ true
+      → outline (file_at t.disk b f) ≡ outline (file_at s.disk b f)
+  -- a directory that I hold stays, with its ranges; a copy may be added, whose range takes no hash from another
+  pub dirs : (g : Gfid) (b : ℕ) (r : DirRecord)
+      → HoldsDir s g → dir_at s.disk b g ≡ Some r
+      → (q : DirRecord) × (dir_at t.disk b g ≡ Some q) × CopyStays r q
+  pub added : (g : Gfid) (b : ℕ) (r : DirRecord)
+      → HoldsDir s g → dir_at s.disk b g ≡ None → dir_at t.disk b g ≡ Some r
+      → AllPlanned t.disk t.history.weights g
+  pub known : (g : Gfid)
+      → HoldsDir s g → s.history.tree.dirs g ≡ true → t.history.tree.dirs g ≡ true
+  -- what needs no lock
+  pub used : (f : Gfid) → IsFileUsed s.disk s.history.tree f → IsFileUsed t.disk t.history.tree f
+  pub sealed : (f : Gfid) → (view_of s.disk f).sealed ≡ true → (view_of t.disk f).sealed ≡ true
+  pub later : s.history.size ≤ t.history.size
+  pub past : (j : ℕ) → j ≤ s.history.size → t.history.past j ≡ s.history.past j

@@ -1,0 +1,7 @@
+use Rattle.std.proofs.Common.{◌≡◌}
+use Rattle.std.specs.Prelude.{map}
+use Rattle.dht_world.proofs.BrickLaws.{freed_below}
+use Rattle.dht_world.proofs.events.free_client.Given as goal
+
+abbrev pub invariant-loop-brick : goal.invariant-loop-brick
+invariant-loop-brick g l = map g.B.Brick.state l.brick-items ≡ freed_below l.client.0 l.brick-index (map g.B.Brick.state l.fn.bricks.items)
