@@ -9,7 +9,22 @@ import argparse
 import difflib
 import re
 
-READ = frozenset({"volume", "call", "step", "down", "up", "die", "clients", "lookup", "create"})
+READ = frozenset(
+    {
+        "volume",
+        "call",
+        "step",
+        "down",
+        "up",
+        "die",
+        "clients",
+        "directories",
+        "any-name",
+        "lookup",
+        "create",
+        "unlink",
+    }
+)
 
 # The words of each kind of line but volume, remount, call and poke, which have rules of their own.
 KINDS = {

@@ -3,12 +3,13 @@
 use crate::tables::compare;
 use dht_sched::{LineFault, read_line};
 use dht_types::calls::Call;
-use dht_types::events::Event;
+use dht_types::events::{Directory, Event};
 use std::alloc::{AllocError, Global};
 use std::test::Fail;
 
 const TABLE: &str = "
-    # the event of a line, which stands between bars; the name of a call in hexadecimal digits
+    # the event of a line, which stands between bars; the name of a call in hexadecimal digits between
+    # brackets
     read |step 0| = step 0
     read |step 63| = step 63
     read |step 18446744073709551615| = step 18446744073709551615
@@ -17,12 +18,28 @@ const TABLE: &str = "
     read |up 31| = up 31
     read |die 64| = die 64
     read |volume 3 0 1000 0| = volume [0, 1000, 0]
-    read |call 0 lookup @ a| = call 0 lookup 00000000-0000-0000-0000-000000000001 61
-    read |call 63 create @ a| = call 63 create 00000000-0000-0000-0000-000000000001 61
-    read |call 18446744073709551615 lookup @ a| = \
-call 18446744073709551615 lookup 00000000-0000-0000-0000-000000000001 61
-    read |call 0 create @ a%20%25%7f%ffz~!| = call 0 create 00000000-0000-0000-0000-000000000001 \
-6120257fff7a7e21
+    read |call 0 lookup @ a| = call 0 lookup root [61]
+    read |call 63 create @ a| = call 63 create root [61]
+    read |call 2 unlink @ a| = call 2 unlink root [61]
+    read |call 18446744073709551615 lookup @ a| = call 18446744073709551615 lookup root [61]
+
+    # directories
+    read |call 0 lookup @0 a| = call 0 lookup of 0 [61]
+    read |call 0 create @1 a| = call 0 create of 1 [61]
+    read |call 0 unlink @18446744073709551615 a| = call 0 unlink of 18446744073709551615 [61]
+    read |call 0 create 00000000-0000-0000-0000-000000000001 a| = \
+call 0 create gfid 00000000-0000-0000-0000-000000000001 [61]
+    read |call 0 unlink ffffffff-ffff-ffff-ffff-ffffffffffff a| = \
+call 0 unlink gfid ffffffff-ffff-ffff-ffff-ffffffffffff [61]
+
+    # names, of whatever bytes
+    read |call 0 create @ a%20%25%7f%ffz~!| = call 0 create root [6120257fff7a7e21]
+    read |call 0 lookup @ %-| = call 0 lookup root []
+    read |call 0 lookup @ .| = call 0 lookup root [2e]
+    read |call 0 create @ ..| = call 0 create root [2e2e]
+    read |call 0 unlink @ a/b| = call 0 unlink root [612f62]
+    read |call 0 lookup @ %00%0a| = call 0 lookup root [000a]
+    read |call 0 lookup @ @| = call 0 lookup root [40]
 
     # lines that are no event's
     read || = malformed
@@ -74,16 +91,26 @@ call 18446744073709551615 lookup 00000000-0000-0000-0000-000000000001 61
     read |call 0 create @ a b| = malformed
     read |call 01 create @ a| = malformed
     read |call 18446744073709551616 create @ a| = malformed
-    read |call 0 unlink @ a| = malformed
-    read |call 0 create @1 a| = malformed
-    read |call 0 create 00000000-0000-0000-0000-000000000001 a| = malformed
-    read |call 0 lookup @ .| = malformed
-    read |call 0 lookup @ ..| = malformed
-    read |call 0 lookup @ a/b| = malformed
-    read |call 0 lookup @ %00| = malformed
+    read |call 0 mkdir @ a| = malformed
+    read |call 0 unlink @| = malformed
+    read |call 0 unlink @ a b| = malformed
+
+    # directories that no word spells so
+    read |call 0 create  a| = malformed
+    read |call 0 create @01 a| = malformed
+    read |call 0 create @+1 a| = malformed
+    read |call 0 create @-1 a| = malformed
+    read |call 0 create @@ a| = malformed
+    read |call 0 create @18446744073709551616 a| = malformed
+    read |call 0 create 1 a| = malformed
+    read |call 0 create 00000000000000000000000000000001 a| = malformed
+    read |call 0 create 0000000A-0000-0000-0000-000000000001 a| = malformed
+    read |call 0 create 00000000-0000-0000-0000-0000000000010 a| = malformed
 
     # names that no word spells so
-    read |call 0 create @ %-| = malformed
+    read |call 0 create @ %-a| = malformed
+    read |call 0 create @ a%-| = malformed
+    read |call 0 create @ %--| = malformed
     read |call 0 create @ %| = malformed
     read |call 0 create @ %2| = malformed
     read |call 0 create @ %61| = malformed
@@ -92,20 +119,35 @@ call 18446744073709551615 lookup 00000000-0000-0000-0000-000000000001 61
     read |call 0 create @ %ZZ| = malformed
     read |call 0 create @ a%| = malformed
 
-    # names of so many bytes
+    # names of so many bytes, on lines of 16 more and a newline
     long 255 = 255
-    long 256 = malformed
+    long 256 = 256
+    long 16367 = 16367
+    long 16368 = malformed
 ";
 
-/// A call, with its name in hexadecimal digits.
-fn call_told(alloc: Global, call: &Call) -> Result<String, AllocError> {
-    let (verb, directory, name) = match call {
-        Call::Lookup(directory, name) => ("lookup", directory, name),
-        Call::Create(directory, name) => ("create", directory, name),
+/// A directory, as a line names it.
+fn directory_told(alloc: Global, directory: Directory) -> Result<String, AllocError> {
+    match directory {
+        Directory::Root => format!(in alloc; "root"),
+        Directory::OfCall(number) => format!(in alloc; "of {number}"),
+        Directory::Gfid(gfid) => {
+            let text = String::from_utf8_lossy(alloc, &gfid.text())?;
+            format!(in alloc; "gfid {text}")
+        }
+    }
+}
+
+/// A call, with its name in hexadecimal digits between brackets.
+fn call_told(alloc: Global, call: &Call<Directory>) -> Result<String, AllocError> {
+    let verb = match call {
+        Call::Lookup(_, _) => "lookup",
+        Call::Create(_, _) => "create",
+        Call::Unlink(_, _) => "unlink",
     };
-    let directory = String::from_utf8_lossy(alloc, &directory.text())?;
-    let name = hex::encode(alloc, name.as_bytes())?;
-    format!(in alloc; "{verb} {directory} {name}")
+    let directory = directory_told(alloc, call.directory())?;
+    let name = hex::encode(alloc, call.name())?;
+    format!(in alloc; "{verb} {directory} [{name}]")
 }
 
 /// What was read of a line.
@@ -139,7 +181,7 @@ pub fn long_told(alloc: Global, words: &str) -> Result<String, AllocError> {
     }
     match &read_line(alloc, &line) {
         Ok(Event::Call(_, Call::Create(_, name))) => {
-            format!(in alloc; "{}", name.as_bytes().len())
+            format!(in alloc; "{}", name.as_slice().len())
         }
         _ => format!(in alloc; "malformed"),
     }

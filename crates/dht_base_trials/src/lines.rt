@@ -18,11 +18,14 @@ const TRANSCRIPT: &str = "\
 volume 2 0 7
 call 12 1 lookup 00000000-0000-0000-0000-000000000001 a%20b%25%7f
 call 12 1 create 00000000-0000-0000-0000-000000000001 a%20b%25%7f
+call 12 1 unlink 00000001-0000-0000-0000-000000010002 %-
 tree 12 add-file 00000000-0000-0000-0000-000000000001 a%20b%25%7f 00000001-0000-0000-0000-000000010002
+tree 12 remove-file 00000000-0000-0000-0000-000000000001 a%20b%25%7f
 refused 7 unknown
 refused 7 dead
 refused 7 busy
 refused 7 idle
+refused 7 answer
 wait 12 1 3 63
 down 3
 up 3
@@ -37,7 +40,9 @@ step 12 1 3 lwrite down
 answer 12 1 at 34 file 00000001-0000-0000-0000-000000010002
 answer 12 1 at 34 dir 00000001-0000-0000-0000-000000010002
 answer 12 1 at 34 made 00000001-0000-0000-0000-000000010002
+answer 12 1 at 34 ok
 answer 12 1 at 34 eexist
+answer 12 1 at 34 eisdir
 answer 12 1 enomem
 answer 12 1 enotconn
 answer 12 1 eio
@@ -80,31 +85,52 @@ ffffffff %-
 2 000000000000000000417874ffffffff
 ";
 
+/// The name of the lines.
+const NAME: &[u8] = b"a b%\x7f";
+
 /// The file of the lines.
 const MADE: Gfid = Gfid(0x1_0000_0000_0000_0000_0001_0002);
 
-const CAUSES: [Cause; 4] = [Cause::Unknown, Cause::Dead, Cause::Busy, Cause::Idle];
+const CAUSES: [Cause; 5] = [
+    Cause::Unknown,
+    Cause::Dead,
+    Cause::Busy,
+    Cause::Idle,
+    Cause::Answer,
+];
 
-const ANSWERS: [(Option<u64>, Answer); 7] = [
+const ANSWERS: [(Option<u64>, Answer); 9] = [
     (Some(34), Answer::File(MADE)),
     (Some(34), Answer::Dir(MADE)),
     (Some(34), Answer::Made(MADE)),
+    (Some(34), Answer::Done),
     (Some(34), Answer::Fault(Errno::Eexist)),
+    (Some(34), Answer::Fault(Errno::Eisdir)),
     (None, Answer::Fault(Errno::Enomem)),
     (None, Answer::Fault(Errno::Enotconn)),
     (None, Answer::Fault(Errno::Eio)),
 ];
 
+/// The volume line, the lines of calls, and of what they did to the tree.
+fn called(alloc: Global, call: CallNo, client: ClientNo) -> Result<Vec<Line>, AllocError> {
+    let (root, name) = (Gfid::ROOT, Name::of(NAME));
+    let looked_up = Bytes::new(NAME.to_vec(alloc)?);
+    let made = Bytes::new(NAME.to_vec(alloc)?);
+    let none = Bytes::new(Vec::new(alloc));
+    Ok(vec![in alloc;
+        Line::Volume(Weights::new(vec![in alloc; 0, 7]?)),
+        Line::Called(call, client, Call::Lookup(root, looked_up)),
+        Line::Called(call, client, Call::Create(root, made)),
+        Line::Called(call, client, Call::Unlink(MADE, none)),
+        Line::Tree(call, TreeStep::AddFile(root, name, MADE)),
+        Line::Tree(call, TreeStep::RemoveFile(root, name)),
+    ]?)
+}
+
 /// The lines of a transcript.
 fn lines(alloc: Global) -> Result<Vec<Line>, AllocError> {
-    let (call, client, brick, root) = (CallNo(12), ClientNo(1), BrickNo(3), Gfid::ROOT);
-    let name = Name::of(b"a b%\x7f");
-    let mut lines = vec![in alloc;
-        Line::Volume(Weights::new(vec![in alloc; 0, 7]?)),
-        Line::Called(call, client, Call::Lookup(root, name)),
-        Line::Called(call, client, Call::Create(root, name)),
-        Line::Tree(call, TreeStep::AddFile(root, name, MADE)),
-    ]?;
+    let (call, client, brick) = (CallNo(12), ClientNo(1), BrickNo(3));
+    let mut lines = called(alloc, call, client)?;
     for cause in CAUSES {
         lines.push(Line::Refused(7, cause))?;
     }

@@ -8,3 +8,4 @@ pub mod SavingLaws
 pub mod TableLaws
 pub mod TableLemmas
 pub mod WithinLaws
+pub mod DropLaws

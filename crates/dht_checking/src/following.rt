@@ -1,10 +1,14 @@
 //! `ComesFrom` and `InTime`: whether a line comes from the event whose turn it is, and in time.
 
-use crate::history::{bricks, call_running, calls, is_dead, is_down, is_undisturbed, requests};
+use crate::history::{
+    answered, bricks, call_running, calls, is_dead, is_down, is_undisturbed, requests,
+};
+use crate::legal::refusal_at_once;
 use crate::verdict::{Definition, require};
-use dht_types::calls::Call;
-use dht_types::events::Event;
-use dht_types::identifiers::{BrickNo, ClientNo};
+use dht_types::calls::{Answer, Call};
+use dht_types::errors::Errno;
+use dht_types::events::{Directory, Event};
+use dht_types::identifiers::{BrickNo, ClientNo, Gfid};
 use dht_types::lines::{Cause, Line, ReplyKind, RequestKind};
 
 /// How many clients there are.
@@ -26,12 +30,25 @@ pub fn heads(past: &[Line]) -> usize {
     past.iter().filter(|line| is_head_line(line)).count()
 }
 
-fn is_same_call(a: &Call, b: &Call) -> bool {
-    match (a, b) {
-        (Call::Lookup(a, name), Call::Lookup(b, other)) => *a == *b && name.same(other),
-        (Call::Create(a, name), Call::Create(b, other)) => *a == *b && name.same(other),
-        _ => false,
+/// `named_gfid`: the directory that an event names, where calls have answered what these lines tell.
+fn named_gfid(past: &[Line], directory: Directory) -> Option<Gfid> {
+    match directory {
+        Directory::Root => Some(Gfid::ROOT),
+        Directory::OfCall(number) => answered(past, number),
+        Directory::Gfid(gfid) => Some(gfid),
     }
+}
+
+/// Whether a call is the one that an event names.
+fn is_named(past: &[Line], call: &Call<Gfid>, event: &Call<Directory>) -> bool {
+    let is_same_verb = match (call, event) {
+        (Call::Lookup(_, _), Call::Lookup(_, _)) => true,
+        (Call::Create(_, _), Call::Create(_, _)) => true,
+        (Call::Unlink(_, _), Call::Unlink(_, _)) => true,
+        _ => false,
+    };
+    let is_same_directory = named_gfid(past, event.directory()) == Some(call.directory());
+    is_same_verb && is_same_directory && call.name() == event.name()
 }
 
 /// The first cause for which an event is refused after these lines, if there is one.
@@ -51,6 +68,10 @@ fn cause(past: &[Line], event: &Event) -> Option<Cause> {
     }
     match (event, call_running(past, client)) {
         (Event::Call(_, _), Some(_)) => Some(Cause::Busy),
+        (Event::Call(_, call), None) => {
+            let has_answered = named_gfid(past, call.directory()).is_some();
+            (!has_answered).then_some(Cause::Answer)
+        }
         (Event::Step(_), None) => Some(Cause::Idle),
         _ => None,
     }
@@ -108,7 +129,7 @@ fn is_head(past: &[Line], number: u64, event: &Event, line: &Line) -> Result<(),
         (Event::Call(client, call), Line::Called(nth, who, what)) => {
             nth.0 == calls(past).saturating_add(1)
                 && u64::from(who.0) == *client
-                && is_same_call(what, call)
+                && is_named(past, what, call)
         }
         (Event::Step(client), _) => return is_step(past, *client, line),
         (Event::Down(brick), Line::WentDown(told)) => u64::from(told.0) == *brick,
@@ -119,22 +140,63 @@ fn is_head(past: &[Line], number: u64, event: &Event, line: &Line) -> Result<(),
     require(is_head, Definition::Head)
 }
 
-/// The head line that came last, and the lines under it.
-fn last_block(past: &[Line]) -> Option<(&Line, &[Line])> {
+/// The head line that came last, its number, and the lines under it.
+fn last_block(past: &[Line]) -> Option<(&Line, u64, &[Line])> {
     let mut block = None;
     for (index, line) in past.iter().enumerate() {
         if is_head_line(line) {
-            block = Some((line, &past[index + 1..]));
+            let number = (index as u64).saturating_add(1);
+            block = Some((line, number, &past[index + 1..]));
         }
     }
     block
 }
 
+/// `refusal_at_start`: what a call answers before its first request, if it is refused then. A
+/// directory whose home is no brick is none of the tree.
+fn refusal_at_start(past: &[Line], call: &Call<Gfid>) -> Option<Errno> {
+    let home = u64::from(call.directory().home().0);
+    let is_nowhere = (home >= bricks(past)).then_some(Errno::Estale);
+    refusal_at_once(call).or(is_nowhere)
+}
+
+/// Whether a call may answer so directly under its call line, of this number: with the refusal of one
+/// that is refused at the start, which holds at the call line if it is that of the directory, and at
+/// no line else; and a call that is not refused only that it had no memory to begin.
+fn may_begin_with(
+    past: &[Line],
+    call: &Call<Gfid>,
+    number: u64,
+    at: Option<u64>,
+    answer: &Answer,
+) -> bool {
+    let Answer::Fault(told) = answer else {
+        return false;
+    };
+    match refusal_at_start(past, call) {
+        Some(Errno::Estale) => *told == Errno::Estale && at == Some(number),
+        Some(errno) => *told == errno && at.is_none(),
+        None => *told == Errno::Enomem && at.is_none(),
+    }
+}
+
+/// Whether all lines that have to stand under the head line that came last are there: the answer of a
+/// call that is refused at the start.
+pub fn is_whole(past: &[Line]) -> bool {
+    match last_block(past) {
+        Some((Line::Called(_, _, call), _, under)) => {
+            refusal_at_start(past, call).is_none() || !under.is_empty()
+        }
+        _ => true,
+    }
+}
+
 /// `Block`: whether the line may stand under the head line that came last. Under a step line stand
 /// the tree line of its call, where there is one, and then at most one answer, of its call alone;
-/// under a call line only the call's own answer; and under the other head lines nothing.
+/// under a call line only the call's own answer, as `may_begin_with` says; and under the other head
+/// lines nothing.
 fn is_under(past: &[Line], line: &Line) -> bool {
-    let Some((head, between)) = last_block(past) else {
+    let Some((head, head_number, between)) = last_block(past) else {
         return false;
     };
     match (head, line) {
@@ -148,8 +210,11 @@ fn is_under(past: &[Line], line: &Line) -> bool {
             };
             is_first && *number == *call && *who == *client
         }
-        (Line::Called(call, client, _), Line::Answered(number, who, _, _)) => {
-            between.is_empty() && *number == *call && *who == *client
+        (Line::Called(call, client, what), Line::Answered(number, who, at, answer)) => {
+            between.is_empty()
+                && *number == *call
+                && *who == *client
+                && may_begin_with(past, what, head_number, *at, answer)
         }
         _ => false,
     }
@@ -161,6 +226,7 @@ pub fn comes_from(events: &[Event], past: &[Line], line: &Line) -> Result<(), De
     if !is_head_line(line) {
         return require(is_under(past, line), Definition::Block);
     }
+    require(is_whole(past), Definition::Block)?;
     let count = heads(past);
     let Some(event) = events.get(count) else {
         return Err(Definition::ComesFrom);
@@ -170,9 +236,9 @@ pub fn comes_from(events: &[Event], past: &[Line], line: &Line) -> Result<(), De
 }
 
 /// `cost`: how many steps a call takes at most.
-fn cost(bricks: u64, call: &Call) -> u64 {
+fn cost(bricks: u64, call: &Call<Gfid>) -> u64 {
     match call {
-        Call::Lookup(_, _) => bricks.saturating_mul(2).saturating_add(10),
+        Call::Lookup(_, _) | Call::Unlink(_, _) => bricks.saturating_mul(2).saturating_add(10),
         Call::Create(_, _) => bricks.saturating_mul(263).saturating_add(216),
     }
 }
@@ -187,7 +253,7 @@ pub fn in_time(past: &[Line], line: &Line) -> Result<(), Definition> {
         return Ok(());
     };
     let is_step = match line {
-        Line::Stepped(_, _, _, _, _) => running.steps < cost(bricks(past), &running.call),
+        Line::Stepped(_, _, _, _, _) => running.steps < cost(bricks(past), running.call),
         _ => false,
     };
     require(

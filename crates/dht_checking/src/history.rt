@@ -4,35 +4,43 @@ use dht_types::calls::{Answer, Call, TreeStep};
 use dht_types::errors::Errno;
 use dht_types::identifiers::{BrickNo, CallNo, ClientNo, Gfid};
 use dht_types::lines::{Line, ReplyKind, RequestKind};
-use dht_types::names::Name;
+
+/// A step that a tree tells a call to do. Its name is what the call says, which may be any bytes.
+#[derive(Clone, Copy)]
+pub enum Told<'a> {
+    /// In this directory this name is to be this file's.
+    AddFile(Gfid, &'a [u8], Gfid),
+    /// In this directory this name is to stand for nothing.
+    RemoveFile(Gfid, &'a [u8]),
+}
 
 /// What a tree says to a call. No call does more than one step.
 #[derive(Clone, Copy)]
-pub enum Said {
+pub enum Said<'a> {
     /// It is refused.
     Refuse(Errno),
     /// It is to say this.
     Say(Answer),
     /// It is to do this step, and then to say this.
-    Do(TreeStep, Answer),
+    Do(Told<'a>, Answer),
 }
 
 /// The first tree line of a call.
 #[derive(Clone, Copy)]
-pub struct Deed {
+pub struct Deed<'a> {
     /// How many lines stand before it.
     pub before: usize,
     /// Its step.
-    pub step: TreeStep,
+    pub step: &'a TreeStep,
 }
 
 /// A call that has begun and not ended.
 #[derive(Clone, Copy)]
-pub struct Running {
+pub struct Running<'a> {
     /// The call's number.
     pub number: CallNo,
     /// What was called.
-    pub call: Call,
+    pub call: &'a Call<Gfid>,
     /// The number of its call line.
     pub since: u64,
     /// How many step lines it has.
@@ -40,7 +48,7 @@ pub struct Running {
     /// How many tree lines it has.
     pub changes: u64,
     /// The first of them.
-    pub first: Option<Deed>,
+    pub first: Option<Deed<'a>>,
 }
 
 /// The tree line that must come next: for a request of this kind, which this brick carried out.
@@ -62,19 +70,23 @@ pub fn is_directory(gfid: Gfid) -> bool {
 }
 
 /// The file at a name of a directory, in the tree after these lines.
-pub fn file_at(past: &[Line], directory: Gfid, name: &Name) -> Option<Gfid> {
+pub fn file_at(past: &[Line], directory: Gfid, name: &[u8]) -> Option<Gfid> {
     let mut found = None;
     for line in past {
-        if let Line::Tree(_, TreeStep::AddFile(at, called, file)) = line {
-            if *at == directory && called.same(name) {
-                found = Some(*file);
+        if let Line::Tree(_, step) = line {
+            let (at, called) = slot_of(step);
+            if at == directory && called == name {
+                found = match step {
+                    TreeStep::AddFile(_, _, file) => Some(*file),
+                    TreeStep::RemoveFile(_, _) => None,
+                };
             }
         }
     }
     found
 }
 
-/// Whether the tree after these lines has the bytes of a file.
+/// Whether the tree after these lines has the bytes of a file, which it keeps without a name too.
 pub fn has_file(past: &[Line], file: Gfid) -> bool {
     let mut found = false;
     for line in past {
@@ -86,33 +98,42 @@ pub fn has_file(past: &[Line], file: Gfid) -> bool {
 }
 
 /// What the tree after these lines says to a call that would make this file.
-pub fn says(past: &[Line], call: &Call, file: Gfid) -> Said {
-    let (Call::Lookup(directory, name) | Call::Create(directory, name)) = call;
-    if !is_directory(*directory) {
+pub fn says<'a>(past: &[Line], call: &'a Call<Gfid>, file: Gfid) -> Said<'a> {
+    let (directory, name) = (call.directory(), call.name());
+    if !is_directory(directory) {
         return Said::Refuse(Errno::Estale);
     }
-    match (call, file_at(past, *directory, name)) {
+    match (call, file_at(past, directory, name)) {
         (Call::Lookup(_, _), Some(found)) => Said::Say(Answer::File(found)),
-        (Call::Lookup(_, _), None) => Said::Refuse(Errno::Enoent),
+        (Call::Lookup(_, _) | Call::Unlink(_, _), None) => Said::Refuse(Errno::Enoent),
         (Call::Create(_, _), Some(_)) => Said::Refuse(Errno::Eexist),
         (Call::Create(_, _), None) => {
-            Said::Do(
-                TreeStep::AddFile(*directory, *name, file),
-                Answer::Made(file),
-            )
+            Said::Do(Told::AddFile(directory, name, file), Answer::Made(file))
         }
+        (Call::Unlink(_, _), Some(_)) => Said::Do(Told::RemoveFile(directory, name), Answer::Done),
     }
 }
 
-/// The file that a step makes.
+/// The file that a step makes. For one that makes none it is the root, which no answer names.
 pub fn made_in(step: &TreeStep) -> Gfid {
-    let TreeStep::AddFile(_, _, file) = step;
-    *file
+    match step {
+        TreeStep::AddFile(_, _, file) => *file,
+        TreeStep::RemoveFile(_, _) => Gfid::ROOT,
+    }
+}
+
+/// The directory of the name that a step changes, and the name.
+pub fn slot_of(step: &TreeStep) -> (Gfid, &[u8]) {
+    match step {
+        TreeStep::AddFile(directory, name, _) => (*directory, name.as_bytes()),
+        TreeStep::RemoveFile(directory, name) => (*directory, name.as_bytes()),
+    }
 }
 
 /// Whether a request changes the tree, where this was the reply.
 pub fn is_change(request: RequestKind, reply: ReplyKind) -> bool {
-    request == RequestKind::Create && reply == ReplyKind::Ok
+    let changes = request == RequestKind::Create || request == RequestKind::Unlink;
+    changes && reply == ReplyKind::Ok
 }
 
 /// The tree line that is owed after these lines.
@@ -139,6 +160,23 @@ pub fn calls(past: &[Line]) -> u64 {
         }
     }
     count
+}
+
+/// The file or directory that the call of a number has answered, if it has answered one.
+pub fn answered(past: &[Line], number: u64) -> Option<Gfid> {
+    let mut found = None;
+    for line in past {
+        match line {
+            Line::Answered(told, _, _, answer) if told.0 == number => {
+                found = match answer {
+                    Answer::File(gfid) | Answer::Dir(gfid) | Answer::Made(gfid) => Some(*gfid),
+                    Answer::Done | Answer::Fault(_) => None,
+                };
+            }
+            _ => {}
+        }
+    }
+    found
 }
 
 /// How many bricks the volume has.
@@ -232,7 +270,7 @@ fn is_quiet(past: &[Line]) -> bool {
 
 /// `IsUndisturbed`: whether a running call was the only one in its span so far, and no line tells of
 /// a fault.
-pub fn is_undisturbed(past: &[Line], running: &Running) -> bool {
+pub fn is_undisturbed(past: &[Line], running: &Running<'_>) -> bool {
     let is_first = match past.get(..(running.since as usize).saturating_sub(1)) {
         Some(front) => is_quiet(front),
         None => false,
@@ -241,14 +279,14 @@ pub fn is_undisturbed(past: &[Line], running: &Running) -> bool {
 }
 
 /// A client's call after these lines.
-pub fn call_running(past: &[Line], client: u64) -> Option<Running> {
-    let mut running: Option<Running> = None;
+pub fn call_running<'a>(past: &'a [Line], client: u64) -> Option<Running<'a>> {
+    let mut running: Option<Running<'a>> = None;
     for (index, line) in past.iter().enumerate() {
         match line {
             Line::Called(number, who, call) if u64::from(who.0) == client => {
                 running = Some(Running {
                     number: *number,
-                    call: *call,
+                    call,
                     since: index as u64 + 1,
                     steps: 0,
                     changes: 0,
@@ -266,7 +304,7 @@ pub fn call_running(past: &[Line], client: u64) -> Option<Running> {
                         call.changes = call.changes.saturating_add(1);
                         call.first = call.first.or(Some(Deed {
                             before: index,
-                            step: *step,
+                            step,
                         }));
                     }
                 }

@@ -1,8 +1,7 @@
 //! `Logged`: whether the bricks' journals tell what the lines do.
 
-use crate::history::{is_change, line_owed};
+use crate::history::{is_change, line_owed, slot_of};
 use crate::verdict::{Definition, require};
-use dht_types::calls::TreeStep;
 use dht_types::identifiers::{BrickNo, CallNo, ClientNo, Gfid};
 use dht_types::lines::{Line, ReplyKind, RequestKind};
 use dht_types::names::Name;
@@ -113,10 +112,11 @@ pub fn logged(past: &[Line], line: &Line, entries: &[Entry]) -> Result<(), Defin
             let entry = entry_at(entries, *brick, served_at(past, *brick), Among::All);
             is_entry(entry, *call, *client, RequestKind::Lock, ReplyKind::Wait)
         }
-        (Line::Tree(_, TreeStep::AddFile(directory, name, _)), Some(owed)) => {
+        (Line::Tree(_, step), Some(owed)) => {
             let number = changes_at(past, owed.brick);
+            let (directory, name) = slot_of(step);
             match entry_at(entries, owed.brick, number, Among::Changes) {
-                Some(entry) => entry.directory == *directory && entry.name.same(name),
+                Some(entry) => entry.directory == directory && entry.name.as_bytes() == name,
                 None => false,
             }
         }

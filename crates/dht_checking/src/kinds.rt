@@ -69,23 +69,25 @@ pub const REPLIES: [(&str, ReplyKind); 17] = [
 ];
 
 /// The word of each error of a call.
-pub const ERRORS: [(&str, Errno); 8] = [
+pub const ERRORS: [(&str, Errno); 9] = [
     ("enoent", Errno::Enoent),
     ("enomem", Errno::Enomem),
     ("eexist", Errno::Eexist),
     ("einval", Errno::Einval),
     ("enametoolong", Errno::Enametoolong),
+    ("eisdir", Errno::Eisdir),
     ("estale", Errno::Estale),
     ("enotconn", Errno::Enotconn),
     ("eio", Errno::Eio),
 ];
 
 /// The word of each cause for which an event is refused.
-pub const CAUSES: [(&str, Cause); 4] = [
+pub const CAUSES: [(&str, Cause); 5] = [
     ("unknown", Cause::Unknown),
     ("dead", Cause::Dead),
     ("busy", Cause::Busy),
     ("idle", Cause::Idle),
+    ("answer", Cause::Answer),
 ];
 
 /// What a word stands for in a table of words.

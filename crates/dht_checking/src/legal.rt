@@ -1,11 +1,11 @@
 //! `Legal`: whether a line may come next.
 
 use crate::history::{
-    Deed, Running, Said, call_running, calls, file_at, has_file, is_dead, is_directory, line_owed,
-    made_in, says, was_replied,
+    Deed, Running, Said, Told, call_running, calls, file_at, has_file, is_dead, is_directory,
+    line_owed, made_in, says, slot_of, was_replied,
 };
 use crate::verdict::{Definition, require};
-use dht_types::calls::{Answer, TreeStep};
+use dht_types::calls::{Answer, Call, TreeStep};
 use dht_types::errors::Errno;
 use dht_types::identifiers::{BrickNo, CallNo, ClientNo, Gfid};
 use dht_types::lines::{Line, ReplyKind, RequestKind};
@@ -13,10 +13,16 @@ use dht_types::lines::{Line, ReplyKind, RequestKind};
 /// The number of the run.
 const RUN: u32 = 1;
 
-fn is_same_step(a: &TreeStep, b: &TreeStep) -> bool {
-    let TreeStep::AddFile(directory, name, file) = a;
-    let TreeStep::AddFile(other_directory, other_name, other_file) = b;
-    *directory == *other_directory && name.same(other_name) && *file == *other_file
+fn is_same_step(told: &Told<'_>, step: &TreeStep) -> bool {
+    match (*told, step) {
+        (Told::AddFile(directory, name, file), TreeStep::AddFile(at, called, made)) => {
+            directory == *at && name == called.as_bytes() && file == *made
+        }
+        (Told::RemoveFile(directory, name), TreeStep::RemoveFile(at, called)) => {
+            directory == *at && name == called.as_bytes()
+        }
+        _ => false,
+    }
 }
 
 fn is_same_answer(a: &Answer, b: &Answer) -> bool {
@@ -24,13 +30,14 @@ fn is_same_answer(a: &Answer, b: &Answer) -> bool {
         (Answer::File(a), Answer::File(b)) => *a == *b,
         (Answer::Dir(a), Answer::Dir(b)) => *a == *b,
         (Answer::Made(a), Answer::Made(b)) => *a == *b,
+        (Answer::Done, Answer::Done) => true,
         (Answer::Fault(a), Answer::Fault(b)) => *a == *b,
         _ => false,
     }
 }
 
 /// `IsIn`: a client's call, if it is the one of this number.
-fn is_in(past: &[Line], client: ClientNo, number: CallNo) -> Option<Running> {
+fn is_in<'a>(past: &'a [Line], client: ClientNo, number: CallNo) -> Option<Running<'a>> {
     match call_running(past, u64::from(client.0)) {
         Some(running) if running.number == number => Some(running),
         _ => None,
@@ -41,13 +48,14 @@ fn is_in(past: &[Line], client: ClientNo, number: CallNo) -> Option<Running> {
 fn is_of(request: RequestKind, step: &TreeStep) -> bool {
     match (request, step) {
         (RequestKind::Create, TreeStep::AddFile(_, _, _)) => true,
+        (RequestKind::Unlink, TreeStep::RemoveFile(_, _)) => true,
         _ => false,
     }
 }
 
 /// `IsNext`: whether a step is the next that a call is to do. No call does a second step.
-fn is_next(past: &[Line], running: &Running, step: &TreeStep) -> bool {
-    match (running.first, says(past, &running.call, made_in(step))) {
+fn is_next(past: &[Line], running: &Running<'_>, step: &TreeStep) -> bool {
+    match (running.first, says(past, running.call, made_in(step))) {
         (None, Said::Do(next, _)) => is_same_step(&next, step),
         _ => false,
     }
@@ -55,8 +63,14 @@ fn is_next(past: &[Line], running: &Running, step: &TreeStep) -> bool {
 
 /// `Fits`: whether a step can be done.
 fn fits(past: &[Line], step: &TreeStep) -> bool {
-    let TreeStep::AddFile(directory, name, file) = step;
-    is_directory(*directory) && file_at(past, *directory, name).is_none() && !has_file(past, *file)
+    let (directory, name) = slot_of(step);
+    let found = file_at(past, directory, name);
+    match step {
+        TreeStep::AddFile(_, _, file) => {
+            is_directory(directory) && found.is_none() && !has_file(past, *file)
+        }
+        TreeStep::RemoveFile(_, _) => found.is_some(),
+    }
 }
 
 /// `IsOwn`: whether a gfid is one that this call of this client makes, with some home.
@@ -65,17 +79,34 @@ fn is_own(client: ClientNo, number: CallNo, gfid: Gfid) -> bool {
     Gfid::made(RUN, client, number, home) == gfid
 }
 
+/// `MakesOwn`: whether the file that a step makes, if it makes one, is this call's own.
+fn makes_own(client: ClientNo, number: CallNo, step: &TreeStep) -> bool {
+    match step {
+        TreeStep::AddFile(_, _, file) => is_own(client, number, *file),
+        TreeStep::RemoveFile(_, _) => true,
+    }
+}
+
+/// `refusal_at_once`: why a call is refused before its first request. Its name is empty, `.` or `..`,
+/// or has a slash or a zero byte, or else it is too long.
+pub fn refusal_at_once(call: &Call<Gfid>) -> Option<Errno> {
+    let name = call.name();
+    let is_dots = name == b".".as_slice() || name == b"..".as_slice();
+    if name.is_empty() || is_dots || name.contains(&b'/') || name.contains(&0) {
+        return Some(Errno::Einval);
+    }
+    (name.len() > 255).then_some(Errno::Enametoolong)
+}
+
 /// Whether the tree before the first of a call's steps told it to do what it did, and then to say
 /// this.
-fn is_answer_to(past: &[Line], running: &Running, first: &Deed, answer: &Answer) -> bool {
+fn is_answer_to(past: &[Line], running: &Running<'_>, first: &Deed<'_>, answer: &Answer) -> bool {
     let Some(front) = past.get(..first.before) else {
         return false;
     };
-    match says(front, &running.call, made_in(&first.step)) {
+    match says(front, running.call, made_in(first.step)) {
         Said::Do(step, told) => {
-            running.changes == 1
-                && is_same_step(&step, &first.step)
-                && is_same_answer(&told, answer)
+            running.changes == 1 && is_same_step(&step, first.step) && is_same_answer(&told, answer)
         }
         _ => false,
     }
@@ -83,14 +114,14 @@ fn is_answer_to(past: &[Line], running: &Running, first: &Deed, answer: &Answer)
 
 /// `Tells`: whether the tree says this to a call at a line: that of the first of its steps, or where
 /// it did none one at which it is to do nothing.
-fn tells(past: &[Line], running: &Running, point: u64, answer: &Answer) -> bool {
+fn tells(past: &[Line], running: &Running<'_>, point: u64, answer: &Answer) -> bool {
     match (&running.first, past.get(..point as usize)) {
         (Some(first), _) => {
             (first.before as u64).checked_add(1) == Some(point)
                 && is_answer_to(past, running, first, answer)
         }
         // what a tree says without a step is the same whatever file the call would make
-        (None, Some(front)) => match says(front, &running.call, Gfid::ROOT) {
+        (None, Some(front)) => match says(front, running.call, Gfid::ROOT) {
             Said::Refuse(errno) => is_same_answer(&Answer::Fault(errno), answer),
             Said::Say(said) => is_same_answer(&said, answer),
             Said::Do(_, _) => false,
@@ -102,7 +133,7 @@ fn tells(past: &[Line], running: &Running, point: u64, answer: &Answer) -> bool 
 /// `HasPoint`: an answer has a point within its call at which the tree says so.
 fn has_point(
     past: &[Line],
-    running: &Running,
+    running: &Running<'_>,
     at: Option<u64>,
     answer: &Answer,
 ) -> Result<(), Definition> {
@@ -114,10 +145,25 @@ fn has_point(
     require(tells(past, running, point, answer), Definition::Tells)
 }
 
+/// `IsAtOnce`: a refusal at once is that of what the call names, and has no point.
+fn is_at_once(running: &Running<'_>, at: Option<u64>, errno: Errno) -> Result<(), Definition> {
+    let is_refused = refusal_at_once(running.call) == Some(errno);
+    require(is_refused && at.is_none(), Definition::IsAtOnce)
+}
+
+/// `HeedsRefusal`: a call that is to be refused at once answers so.
+fn heeds_refusal(running: &Running<'_>, answer: &Answer) -> Result<(), Definition> {
+    let heeds = match refusal_at_once(running.call) {
+        Some(errno) => is_same_answer(&Answer::Fault(errno), answer),
+        None => true,
+    };
+    require(heeds, Definition::HeedsRefusal)
+}
+
 /// `Answers`: a call may answer so.
 fn answers(
     past: &[Line],
-    running: &Running,
+    running: &Running<'_>,
     at: Option<u64>,
     answer: &Answer,
 ) -> Result<(), Definition> {
@@ -131,9 +177,8 @@ fn answers(
             let has_failed = was_replied(past, running.number, ReplyKind::Failed);
             require(at.is_none() && has_failed, Definition::FaultHolds)
         }
-        Answer::Fault(Errno::Einval) | Answer::Fault(Errno::Enametoolong) => {
-            Err(Definition::FaultHolds)
-        }
+        Answer::Fault(Errno::Einval) => is_at_once(running, at, Errno::Einval),
+        Answer::Fault(Errno::Enametoolong) => is_at_once(running, at, Errno::Enametoolong),
         _ => has_point(past, running, at, answer),
     }
 }
@@ -150,8 +195,8 @@ fn tree_follows(past: &[Line], number: CallNo, step: &TreeStep) -> Result<(), De
         None => return Err(Definition::IsIn),
     }
     require(fits(past, step), Definition::Fits)?;
-    let is_own = is_own(owed.client, number, made_in(step));
-    require(is_own, Definition::IsOwn)
+    let makes_own = makes_own(owed.client, number, step);
+    require(makes_own, Definition::IsOwn)
 }
 
 /// `Follows`: the line may come next.
@@ -168,14 +213,20 @@ pub fn follows(past: &[Line], line: &Line) -> Result<(), Definition> {
             require(is_idle && is_next, Definition::Follows)
         }
         Line::Stepped(number, client, _, _, _) | Line::Waited(number, client, _, _) => {
-            let running = is_in(past, *client, *number);
-            require(running.is_some(), Definition::IsIn)
-        }
-        Line::Answered(number, client, at, answer) => {
             match is_in(past, *client, *number) {
-                Some(running) => answers(past, &running, *at, answer),
+                Some(running) => {
+                    let takes_steps = refusal_at_once(running.call).is_none();
+                    require(takes_steps, Definition::Follows)
+                }
                 None => Err(Definition::IsIn),
             }
+        }
+        Line::Answered(number, client, at, answer) => {
+            let Some(running) = is_in(past, *client, *number) else {
+                return Err(Definition::IsIn);
+            };
+            answers(past, &running, *at, answer)?;
+            heeds_refusal(&running, answer)
         }
         Line::Died(client) => {
             let is_first = !is_dead(past, u64::from(client.0));

@@ -13,9 +13,9 @@
 //! | `change NAME` | changes of the last case above that begins with `case` |
 //! | `# ...` | a remark |
 //!
-//! The lines of schedule and transcript are spelled as `dhtvol` reads and prints them, but a call may
-//! have any directory, by its gfid. What stands in a transcript from its
-//! first line `brick ...` on is the dump of the bricks, and is not looked at. An entry is spelled
+//! The lines of schedule and transcript are spelled as `dhtvol` reads and prints them. What stands in
+//! a transcript from its first line `brick ...` on is the dump of the bricks, and is not looked at. An
+//! entry is spelled
 //! `entry CALL CLIENT BRICK REQUEST REPLY DIRECTORY NAME`, each brick's entries in their order, with
 //! the name `%-` where the request names none; where a case has no entry, nothing is asked of
 //! journals. A change is one of

@@ -3,13 +3,17 @@
 
 use crate::journals::Entry;
 use crate::kinds::{CAUSES, ERRORS, REPLIES, REQUESTS, meaning};
+use dht_types::bytes::Bytes;
 use dht_types::calls::{Answer, Call, TreeStep};
-use dht_types::events::Event;
+use dht_types::events::{Directory, Event};
 use dht_types::identifiers::{BrickNo, CallNo, ClientNo, Gfid};
 use dht_types::lines::Line;
-use dht_types::names::{LONGEST_NAME, Name};
+use dht_types::names::Name;
 use dht_types::volumes::Weights;
 use std::alloc::{AllocError, Global};
+
+/// The most bytes of a line of a schedule, its newline included.
+const LONGEST_LINE: usize = 16_384;
 
 /// A number in decimal, with no sign and no zero in front.
 pub fn number(word: &str) -> Option<u64> {
@@ -47,29 +51,48 @@ fn first_byte(text: &[u8]) -> Option<(u8, &[u8])> {
     (is_plain != is_spelled_out).then_some((byte, rest))
 }
 
-fn name(word: &str) -> Option<Name> {
-    let mut bytes = [0u8; LONGEST_NAME];
-    let mut size = 0;
+/// The bytes that a word spells as a name, which may be any.
+fn name(alloc: Global, word: &str) -> Result<Option<Bytes>, AllocError> {
+    let mut bytes = Vec::new(alloc);
+    if word == "%-" {
+        return Ok(Some(Bytes::new(bytes)));
+    }
     let mut rest = word.as_bytes();
-    for place in 0..LONGEST_NAME {
+    for _ in 0..word.len() {
         if !rest.is_empty() {
-            let (byte, after) = first_byte(rest)?;
-            bytes[place] = byte;
-            size = place + 1;
+            let Some((byte, after)) = first_byte(rest) else {
+                return Ok(None);
+            };
+            bytes.push(byte)?;
             rest = after;
         }
     }
-    if !rest.is_empty() {
-        return None;
-    }
-    Name::new(bytes.get(..size)?).ok()
+    Ok((!bytes.is_empty()).then_some(Bytes::new(bytes)))
 }
 
-fn call(verb: &str, directory: Gfid, name: Name) -> Option<Call> {
+/// The name of a file that a word spells.
+fn file_name(alloc: Global, word: &str) -> Result<Option<Name>, AllocError> {
+    let Some(bytes) = name(alloc, word)? else {
+        return Ok(None);
+    };
+    Ok(Name::new(bytes.as_slice()).ok())
+}
+
+fn call<D: Drop>(verb: &str, directory: D, name: Bytes) -> Option<Call<D>> {
     match verb {
         "lookup" => Some(Call::Lookup(directory, name)),
         "create" => Some(Call::Create(directory, name)),
+        "unlink" => Some(Call::Unlink(directory, name)),
         _ => None,
+    }
+}
+
+/// A directory, as a line of a schedule names it.
+fn directory(word: &str) -> Option<Directory> {
+    match word.strip_prefix('@') {
+        Some("") => Some(Directory::Root),
+        Some(nth) => Some(Directory::OfCall(number(nth)?)),
+        None => Some(Directory::Gfid(gfid(word)?)),
     }
 }
 
@@ -88,11 +111,6 @@ fn weights(alloc: Global, count: &str, words: &[&str]) -> Result<Option<Weights>
 
 fn event_of_words(words: &[&str]) -> Option<Event> {
     match words {
-        ["call", who, verb, at, called] => {
-            let directory = if *at == "@" { Gfid::ROOT } else { gfid(at)? };
-            let what = call(verb, directory, name(called)?)?;
-            Some(Event::Call(number(who)?, what))
-        }
         ["step", who] => Some(Event::Step(number(who)?)),
         ["down", at] => Some(Event::Down(number(at)?)),
         ["up", at] => Some(Event::Up(number(at)?)),
@@ -101,11 +119,24 @@ fn event_of_words(words: &[&str]) -> Option<Event> {
     }
 }
 
-/// The event of a line of a schedule.
+/// The call of a client that a line of a schedule names, by its words behind `call`.
+fn event_of_call(who: &str, verb: &str, at: &str, name: Bytes) -> Option<Event> {
+    let what = call(verb, directory(at)?, name)?;
+    Some(Event::Call(number(who)?, what))
+}
+
+/// The event of a line of a schedule, which has a newline behind it.
 pub fn event(alloc: Global, text: &str) -> Result<Option<Event>, AllocError> {
+    if text.len() >= LONGEST_LINE {
+        return Ok(None);
+    }
     let words: Vec<&str> = text.split(' ').collect(alloc)?;
     match words.as_slice() {
         ["volume", count, rest @ ..] => Ok(weights(alloc, count, rest)?.map(Event::Volume)),
+        ["call", who, verb, at, called] => {
+            let name = name(alloc, called)?;
+            Ok(name.and_then(|name| event_of_call(who, verb, at, name)))
+        }
         words => Ok(event_of_words(words)),
     }
 }
@@ -115,6 +146,7 @@ fn answer(words: &[&str]) -> Option<Answer> {
         ["file", file] => Some(Answer::File(gfid(file)?)),
         ["dir", dir] => Some(Answer::Dir(gfid(dir)?)),
         ["made", file] => Some(Answer::Made(gfid(file)?)),
+        ["ok"] => Some(Answer::Done),
         [error] => Some(Answer::Fault(meaning(&ERRORS, error)?)),
         _ => None,
     }
@@ -136,10 +168,6 @@ fn answered(nth: &str, who: &str, words: &[&str]) -> Option<Line> {
 
 fn line_of_words(words: &[&str]) -> Option<Line> {
     match words {
-        ["call", nth, who, verb, at, called] => {
-            let what = call(verb, gfid(at)?, name(called)?)?;
-            Some(Line::Called(CallNo(number(nth)?), ClientNo(small(who)?), what))
-        }
         ["step", nth, who, at, request, reply] => Some(Line::Stepped(
             CallNo(number(nth)?),
             ClientNo(small(who)?),
@@ -153,10 +181,6 @@ fn line_of_words(words: &[&str]) -> Option<Line> {
             BrickNo(small(at)?),
             ClientNo(small(holder)?),
         )),
-        ["tree", nth, "add-file", at, called, file] => {
-            let step = TreeStep::AddFile(gfid(at)?, name(called)?, gfid(file)?);
-            Some(Line::Tree(CallNo(number(nth)?), step))
-        }
         ["answer", nth, who, rest @ ..] => answered(nth, who, rest),
         ["down", at] => Some(Line::WentDown(BrickNo(small(at)?))),
         ["up", at] => Some(Line::CameUp(BrickNo(small(at)?))),
@@ -166,36 +190,65 @@ fn line_of_words(words: &[&str]) -> Option<Line> {
     }
 }
 
+/// The line of a call, by its words behind `call`.
+fn line_of_call(nth: &str, who: &str, verb: &str, at: &str, name: Bytes) -> Option<Line> {
+    let what = call(verb, gfid(at)?, name)?;
+    Some(Line::Called(CallNo(number(nth)?), ClientNo(small(who)?), what))
+}
+
+/// The line of a change of the tree, by its words behind the name's.
+fn line_of_tree(nth: &str, change: &str, at: &str, name: Name, rest: &[&str]) -> Option<Line> {
+    let step = match (change, rest) {
+        ("add-file", [file]) => TreeStep::AddFile(gfid(at)?, name, gfid(file)?),
+        ("remove-file", []) => TreeStep::RemoveFile(gfid(at)?, name),
+        _ => return None,
+    };
+    Some(Line::Tree(CallNo(number(nth)?), step))
+}
+
 /// The line of a transcript of this text.
 pub fn line(alloc: Global, text: &str) -> Result<Option<Line>, AllocError> {
     let words: Vec<&str> = text.split(' ').collect(alloc)?;
     match words.as_slice() {
         ["volume", count, rest @ ..] => Ok(weights(alloc, count, rest)?.map(Line::Volume)),
+        ["call", nth, who, verb, at, called] => {
+            let name = name(alloc, called)?;
+            Ok(name.and_then(|name| line_of_call(nth, who, verb, at, name)))
+        }
+        ["tree", nth, change, at, called, rest @ ..] => {
+            let name = file_name(alloc, called)?;
+            Ok(name.and_then(|name| line_of_tree(nth, change, at, name, rest)))
+        }
         words => Ok(line_of_words(words)),
     }
 }
 
-/// The entry of a journal of these words: those of its step line, and then directory and name.
-fn entry_of_words(words: &[&str]) -> Option<Entry> {
-    match words {
-        ["entry", nth, who, at, request, reply, place, called] => Some(Entry {
-            brick: BrickNo(small(at)?),
-            client: ClientNo(small(who)?),
-            call: CallNo(number(nth)?),
-            request: meaning(&REQUESTS, request)?,
-            reply: meaning(&REPLIES, reply)?,
-            directory: gfid(place)?,
-            name: match *called {
-                "%-" => Name::of(&[]),
-                _ => name(called)?,
-            },
-        }),
-        _ => None,
-    }
+/// The entry of a journal of the words of its step line, and of directory and name.
+fn entry_of_words(step: [&str; 5], place: &str, name: Name) -> Option<Entry> {
+    let [nth, who, at, request, reply] = step;
+    Some(Entry {
+        brick: BrickNo(small(at)?),
+        client: ClientNo(small(who)?),
+        call: CallNo(number(nth)?),
+        request: meaning(&REQUESTS, request)?,
+        reply: meaning(&REPLIES, reply)?,
+        directory: gfid(place)?,
+        name,
+    })
 }
 
 /// The entry of a journal of this text.
 pub fn entry(alloc: Global, text: &str) -> Result<Option<Entry>, AllocError> {
     let words: Vec<&str> = text.split(' ').collect(alloc)?;
-    Ok(entry_of_words(words.as_slice()))
+    match words.as_slice() {
+        ["entry", nth, who, at, request, reply, place, called] => {
+            let name = match *called {
+                "%-" => Some(Name::of(&[])),
+                called => file_name(alloc, called)?,
+            };
+            let step = [*nth, *who, *at, *request, *reply];
+            Ok(name.and_then(|name| entry_of_words(step, place, name)))
+        }
+        _ => Ok(None),
+    }
 }

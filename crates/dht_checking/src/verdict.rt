@@ -1,6 +1,6 @@
 //! Whether a line may stand where it does, and a transcript end there, by all the definitions.
 
-use crate::following::{comes_from, heads, in_time, is_within_limit};
+use crate::following::{comes_from, heads, in_time, is_whole, is_within_limit};
 use crate::history::line_owed;
 use crate::journals::{Entry, all_told, logged};
 use crate::legal::follows;
@@ -30,13 +30,17 @@ pub enum Definition {
     Tells,
     /// No call answers this error so.
     FaultHolds,
+    /// The call is not to be refused at once so, or such an answer has a line at which it holds.
+    IsAtOnce,
+    /// The call is to be refused at once, and this is another answer.
+    HeedsRefusal,
     /// An event has no lines, or a line no event.
     ComesFrom,
     /// The line is not the first of the event whose turn it is.
     Head,
     /// No step of the call goes so: the brick is down or not, the lock waits for no such client.
     IsStep,
-    /// The line may not stand under its head line.
+    /// The line may not stand under its head line, or one that has to stand there is missing.
     Block,
     /// The call has used up its cost, or waits, though it is alone and nothing failed.
     InTime,
@@ -75,6 +79,7 @@ pub fn may_end(
     journals: Option<&[Entry]>,
 ) -> Result<(), Definition> {
     require(line_owed(lines).is_none(), Definition::Legal)?;
+    require(is_whole(lines), Definition::Block)?;
     require(heads(lines) == events.len(), Definition::ComesFrom)?;
     match journals {
         Some(entries) => all_told(lines, entries),

@@ -1,4 +1,4 @@
-pub mod PartSteps
+pub mod FoundLaws
 pub mod LookupSteps
 pub mod CreateSteps
 pub mod ProgramSteps

@@ -1,12 +1,13 @@
 -- Where a client is: where its running call is.
 use Rattle.std.specs.Prelude.{ℕ, ◌+◌, ◌*◌, ◌≡◌, Bool, true, false, is_some, nat_lt, ◌==◌, if◌then◌else◌, Option, Some, None, MatchOption, List, [], ◌∷◌, length}
+use Rattle.dht_types.specs.Calls.{directory_of}
 use Rattle.dht_types.specs.Gfid.{root, anchor}
 use Rattle.dht_types.specs.declared.errors.Errno.{Errno}
 use Rattle.dht_types.specs.declared.identifiers.Gfid.{Gfid}
 use Rattle.dht_types.specs.declared.identifiers.CallNo.{CallNo}
 use Rattle.dht_types.specs.declared.identifiers.ClientNo.{ClientNo}
 use Rattle.dht_types.specs.declared.calls.Call.{Call}
-use Rattle.dht_types.specs.declared.calls.Call.TheVariants.{Lookup, Create}
+use Rattle.dht_types.specs.declared.calls.Call.TheVariants.{Lookup, Create, Unlink}
 use Rattle.dht_types.specs.declared.locks.Key.TheVariants.{Dir}
 use Rattle.dht_types.specs.declared.locks.Mode.TheVariants.{Shared}
 use Rattle.dht_brick.specs.declared.requests.NameRequest.TheVariants.{Look, Dirinfo}
@@ -19,75 +20,96 @@ use Rattle.dht_section.specs.Shapes.{either}
 use Rattle.dht_section.specs.Stages.{Stage}
 use Rattle.dht_section.specs.declared.machine.Ask.{Ask}
 use Rattle.dht_section.specs.declared.machine.Finish.{Finish}
-use Rattle.dht_section.specs.declared.section.Location.{Location}
+use Rattle.dht_section.specs.Location.{located}
+use Rattle.dht_fileops.specs.Unlink.{first_unlink}
 use Rattle.dht_client.specs.Create.{first_create}
-use Rattle.dht_client.specs.Layout.{holder_in}
+use Rattle.dht_client.specs.Layout.{holder_in, layout_in, learned_in}
 use Rattle.dht_client.specs.Lookup.{first_lookup}
 use Rattle.dht_client.specs.Program.{program_stage, program_fault, program_layout, program_taught}
 use Rattle.dht_client.specs.declared.program.Program.{Program}
-use Rattle.dht_client.specs.declared.program.Program.TheVariants.{LookingUp, Creating}
+use Rattle.dht_client.specs.declared.program.Program.TheVariants.{LookingUp, Creating, Unlinking}
 use Rattle.dht_client.specs.declared.calling.Client.{Client}
+use Rattle.dht_client.specs.declared.calling.Running.{Running}
+use Rattle.dht_client.specs.declared.layout.Known.{Known}
 
 abbrev pub client_number : Client → ClientNo
 client_number c = c.number
 
--- the layout of the root that it knows, if it knows it
-abbrev pub client_layout : Client → Option (List (Option Range))
-client_layout c = c.layout
+-- the layout that it knows, with its directory; and that of a directory, if it knows it
+abbrev pub client_known : Client → Option Known
+client_known c = c.known
+
+abbrev pub client_layout : Client → Gfid → Option (List (Option Range))
+client_layout c g = layout_in c.known g
 
 abbrev pub client_is_busy : Client → Bool
 client_is_busy c = is_some c.pending
 
 -- an idle client asks for nothing, so what stands there for it does not matter
-abbrev pub running_stage : Option Program → Stage
+abbrev pub running_stage : Option Running → Stage
 running_stage None = record {
   asks = record { brick = record { 0 = 0 }; request = OnNames (Dirinfo root) };
   claims = no_claim;
   variant = 0;
   knows = λ s. Unit {0};
 }
-running_stage (Some m) = program_stage m
+running_stage (Some x) = program_stage x.program
 
 abbrev pub client_stage : Client → Stage
 client_stage c = running_stage c.pending
 
-abbrev pub running_fault : Option Program → Option Errno
+abbrev pub running_fault : Option Running → Option Errno
 running_fault None = None
-running_fault (Some m) = program_fault m
+running_fault (Some x) = program_fault x.program
 
 -- the error of a brick that ended its call
 abbrev pub client_fault : Client → Option Errno
 client_fault c = running_fault c.pending
 
-abbrev pub running_learned : Option Program → Option (List (Option Range))
+abbrev pub running_learned : Option Running → Option (List (Option Range))
 running_learned None = None
-running_learned (Some m) = program_layout m
+running_learned (Some x) = program_layout x.program
 
 -- the layout that its call has learned
 abbrev pub client_learned : Client → Option (List (Option Range))
 client_learned c = running_learned c.pending
 
-abbrev pub running_taught : Option Program → Reply → Option (List (Option Range))
+abbrev pub running_taught : Option Running → Reply → Option (List (Option Range))
 running_taught None r = None
-running_taught (Some m) r = program_taught m r
+running_taught (Some x) r = program_taught x.program r
 
 -- and that a reply teaches the call: by this reply every brick has shown its range
 abbrev pub client_taught : Client → Reply → Option (List (Option Range))
 client_taught c r = running_taught c.pending r
 
--- a call learns the layout that a reply teaches, and its client knows it from its end on
+-- the directory of its call
+abbrev pub running_directory : Option Running → Option Gfid
+running_directory None = None
+running_directory (Some x) = Some x.directory
+
+abbrev pub client_directory : Client → Option Gfid
+client_directory c = running_directory c.pending
+
+-- what is known after a call in this directory, if there is one
+abbrev pub known_after : Option Gfid → Option (List (Option Range)) → Option Known → Option Known
+known_after None learned known = known
+known_after (Some g) learned known = learned_in known g learned
+
+-- a call learns the layout that a reply teaches, and its client knows it as its directory's from its end on
 pub record CallLearns (old : Client) (r : Reply) (answer : Option Finish) (new : Client) : Type 0 where
   pub learns : MatchOption answer (client_learned new ≡ either (client_taught old r) (client_learned old)) (λ f. Unit {0})
-  pub knows : MatchOption answer (client_layout new ≡ client_layout old) (λ f. client_layout new ≡ either (client_learned old) (client_layout old))
+  pub directory : MatchOption answer (client_directory new ≡ client_directory old) (λ f. Unit {0})
+  pub knows : MatchOption answer (client_known new ≡ client_known old) (λ f. client_known new ≡ known_after (client_directory old) (client_learned old) (client_known old))
 
--- the name of a call
-abbrev pub place_at : Gfid → List ℕ → List ℕ → Location
-place_at d n ws = record { directory = d; name = n; bricks = length ws }
+-- the program of a call at its beginning, over so many bricks
+abbrev pub first_program : Client → ℕ → ℕ → CallNo → Call Gfid → Program
+first_program c bricks run k (Lookup d n) = LookingUp (first_lookup (located bricks d n) (client_layout c d))
+first_program c bricks run k (Create d n) = Creating (first_create (located bricks d n) (record { run = run; client = c.number; call = k }))
+first_program c bricks run k (Unlink d n) = Unlinking (first_unlink bricks d n)
 
--- the program of a call at its beginning
-abbrev pub first_program : Client → List ℕ → ℕ → CallNo → Call → Program
-first_program c ws run k (Lookup d n) = LookingUp (first_lookup (place_at d n ws) c.layout)
-first_program c ws run k (Create d n) = Creating (first_create (place_at d n ws) (record { run = run; client = c.number; call = k }))
+-- what a client runs then
+abbrev pub first_running : Client → ℕ → ℕ → CallNo → Call Gfid → Running
+first_running c bricks run k call = record { directory = directory_of call; program = first_program c bricks run k call }
 
 -- the first request of a part under locks
 abbrev pub first_lock : Gfid → List ℕ → Ask
@@ -98,11 +120,12 @@ abbrev pub first_look : Gfid → List ℕ → List ℕ → Option ℕ → Ask
 first_look d n ws None = first_lock d ws
 first_look d n ws (Some b) = if nat_lt b (length ws) then record { brick = record { 0 = b }; request = OnNames (Look d n) } else first_lock d ws
 
--- the first request of a call, by a client that knows this layout or none
-abbrev pub first_ask : Option (List (Option Range)) → List ℕ → Call → Ask
+-- the first request of a call, by a client that knows this layout of its directory or none
+abbrev pub first_ask : Option (List (Option Range)) → List ℕ → Call Gfid → Ask
 first_ask (Some ranges) ws (Lookup d n) = first_look d n ws (holder_in ranges n)
 first_ask None ws (Lookup d n) = record { brick = record { 0 = 0 }; request = OnNames (Dirinfo d) }
 first_ask known ws (Create d n) = first_lock d ws
+first_ask known ws (Unlink d n) = first_lock d ws
 
 -- what a call claims whose first request is this: the lock, if it asks for one
 abbrev pub claimed_by : (brick : ℕ) → Request → Claim
@@ -113,7 +136,8 @@ abbrev pub first_claim : Ask → Claim
 first_claim a = claimed_by a.brick.0 a.request
 
 -- how many requests a call sends at most, over so many bricks, by a client that knows the layout or does not
-abbrev pub most_steps : Bool → ℕ → Call → ℕ
+abbrev pub most_steps : Bool → ℕ → Call Gfid → ℕ
 most_steps true n (Lookup d m) = n + 5
 most_steps false n (Lookup d m) = 2 * n + 5
 most_steps known n (Create d m) = n + 5
+most_steps known n (Unlink d m) = n + 7

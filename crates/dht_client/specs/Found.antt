@@ -1,17 +1,16 @@
 -- A name that is found at its holder.
 use Rattle.std.specs.Prelude.{ℕ, ◌≡◌, Some, List, [], ◌∷◌}
 use Rattle.dht_types.specs.declared.identifiers.Gfid.{Gfid}
-use Rattle.dht_types.specs.declared.calls.Answer.TheVariants.{File}
 use Rattle.dht_brick.specs.declared.requests.NameRequest.TheVariants.{Look}
 use Rattle.dht_brick.specs.declared.requests.Request.{Request}
 use Rattle.dht_brick.specs.declared.requests.Request.TheVariants.{OnNames}
 use Rattle.dht_brick.specs.declared.replies.Reply.{Reply}
 use Rattle.dht_section.specs.Claims.{Lock}
+use Rattle.dht_section.specs.Ended.{found_at}
 use Rattle.dht_section.specs.Replies.{file_shown}
 use Rattle.dht_section.specs.Stages.{Stage, MatchTurn}
-use Rattle.dht_section.specs.declared.machine.Finish.{Finish}
+use Rattle.dht_section.specs.declared.ended.Ended.{Ended}
 use Rattle.dht_section.specs.declared.machine.Turn.{Turn}
-use Rattle.dht_client.specs.declared.ended.Ended.{Ended}
 
 -- the request is a look at a name by a call that claims no lock
 abbrev pub IsFreeLook : Request → List Lock → Type 0
@@ -23,10 +22,6 @@ IsFreeLook q ls = ⊥
 abbrev pub ShowsFile : Stage → Reply → Gfid → Type 0
 ShowsFile x r f = IsFreeLook x.asks.request x.claims.locks × (file_shown r ≡ Some f)
 
--- the answer that the file is there, at this line
-abbrev pub found_at : Gfid → ℕ → Finish
-found_at f at = record { answer = File f; at = Some at }
-
--- a turn ends with that answer
+-- a turn ends with the answer that the file is there
 abbrev pub IsFound : {M : Type 0} → Gfid → ℕ → Turn M Ended → Type 0
 IsFound f at turn = MatchTurn turn (λ n. ⊥) (λ d. d.finish ≡ found_at f at)

@@ -1,11 +1,5 @@
-pub mod Ended
-pub mod Parts
-pub mod PartLaws
 pub mod Layout
-pub mod HeldLaws
 pub mod Found
-pub mod Again
-pub mod Faults
 pub mod Lookup
 pub mod LookupLaws
 pub mod Create

@@ -1,83 +1,129 @@
 //! A client: the program of its running call, if there is one, and what it has learned.
 
-ghost use Rattle.std.specs.Prelude.{◌≡◌, ◌≤◌, ◌^◌, ◌<◌, true, false, is_none, is_some, None, Some, length};
-ghost use Rattle.dht_types.specs.Calls.{IsInRoot};
+ghost use Rattle.std.specs.Prelude.{◌≡◌, ◌≤◌, ◌^◌, ◌<◌, true, false, is_none, is_ok, is_some, None, Some, length, IfOk, OnOk, OnErr};
+ghost use Rattle.std.specs.Result.{result_err};
+ghost use Rattle.dht_types.specs.Calls.{directory_of, name_of, refusal_at_start};
 ghost use Rattle.dht_types.specs.Cost.{cost};
 ghost use Rattle.dht_types.specs.declared.identifiers.Gfid.{Gfid as AGfid};
-ghost use Rattle.dht_section.specs.Begins.{Begins};
+ghost use Rattle.dht_section.specs.Begins.{Begins, IsRefusal};
 ghost use Rattle.dht_section.specs.Scene.{Scene};
 ghost use Rattle.dht_section.specs.Stages.{CallMoves};
-ghost use Rattle.dht_client.specs.Client.{CallLearns, client_fault, client_is_busy, client_layout, client_learned, client_number, client_stage, first_ask, first_claim, first_program, most_steps};
+ghost use Rattle.dht_client.specs.Client.{CallLearns, client_directory, client_fault, client_is_busy, client_known, client_layout, client_learned, client_number, client_stage, first_ask, first_claim, first_program, most_steps};
 ghost use Rattle.dht_client.specs.ClientLaws.{client_goes_on, client_permitted, client_stable};
-ghost use Rattle.dht_client.specs.Again.{IsUnanswered};
-ghost use Rattle.dht_client.specs.Faults.{CallNotesFault};
-ghost use Rattle.dht_client.specs.Found.{ShowsFile, found_at};
+ghost use Rattle.dht_section.specs.Again.{IsUnanswered};
+ghost use Rattle.dht_section.specs.Faults.{CallNotesFault};
+ghost use Rattle.dht_section.specs.Ended.{found_at};
+ghost use Rattle.dht_section.specs.Location.{located};
+ghost use Rattle.dht_client.specs.Found.{ShowsFile};
 
 use super::create::{CreateCall, Origin};
-use super::layout::learn;
+use super::layout::{Known, layout_in, learn};
 use super::lookup::LookupCall;
 use super::program::Program;
 use dht_brick::replies::Reply;
+use dht_fileops::unlink::Unlink;
 use dht_section::caller::Caller;
+use dht_section::location::Location;
 use dht_section::machine::{Ask, Finish, Machine, Turn};
-use dht_section::section::Location;
 use dht_types::calls::Call;
+use dht_types::errors::Errno;
 use dht_types::identifiers::{CallNo, ClientNo, Gfid};
+use dht_types::names::Name;
 use dht_types::volumes::Weights;
-use dht_xattr::layout::Layout;
+use std::alloc::{AllocError, Global};
+
+/// A running call: the directory of its name, and its program.
+#[derive(Drop)]
+pub struct Running {
+    directory: Gfid,
+    program: Program,
+}
 
 /// A client of the volume. It carries out one call at a time, and looks a name up at its holder
-/// alone once it knows the layout.
+/// alone where it knows the layout of the name's directory.
 #[derive(Drop)]
 pub struct Client {
     number: ClientNo,
-    /// The layout of the root, the one directory, once the client has read it.
-    layout: Option<Layout>,
-    pending: Option<Program>,
+    /// The layout that was read last, with its directory.
+    known: Option<Known>,
+    pending: Option<Running>,
+}
+
+/// The name of a call, over bricks of these weights; or why the call is refused before its first
+/// request.
+fn locate(weights: &Weights, what: &Call<Gfid>) -> Result<Location, Errno>
+    requires { length weights.now ≤ 32 }
+    ensures refusal { result_err result ≡ refusal_at_start (length weights.now) what.now }
+    ensures location { IfOk result
+        (λ l. l ≡ located (length weights.now) (directory_of what.now) (name_of what.now)) }
+{
+    let bricks = weights.as_slice().len() as u16;
+    let name = Name::new(what.name())?;
+    let directory = what.directory();
+    if directory.home().0 < bricks {
+        Ok(Location {
+            directory,
+            name,
+            bricks,
+        })
+    } else {
+        Err(Errno::Estale)
+    }
 }
 
 impl Client {
-    /// A client that has called nothing yet, and does not know the layout.
+    /// A client that has called nothing yet, and knows no layout.
     pub fn new(number: ClientNo) -> Client
         ensures number { client_number result ≡ number }
         ensures idle { client_is_busy result ≡ false }
-        ensures layout { client_layout result ≡ None }
+        ensures known { client_known result ≡ None }
     {
         Client {
             number,
-            layout: None,
+            known: None,
             pending: None,
         }
     }
 
-    /// The program of a call.
-    fn program(&self, weights: &Weights, run: u32, call: CallNo, what: &Call) -> Program
-        requires { length weights.now ≤ 32 }
-        ensures program { result ≡ first_program self.now weights.now run call what.now }
+    /// The program of a call, whose name is at this location. It takes the memory that the call will
+    /// need.
+    fn program(
+        &self,
+        alloc: Global,
+        location: Location,
+        run: u32,
+        call: CallNo,
+        what: &Call<Gfid>,
+    ) -> Result<Program, AllocError>
+        requires { location
+            ≡ located location.bricks (directory_of what.now) (name_of what.now) }
+        ensures program { IfOk result
+            (λ p. p ≡ first_program self.now location.bricks run call what.now) }
         ensures small { call.0 < 2 ^ 64 }
     {
-        let bricks = weights.as_slice().len() as u16;
-        match *what {
-            Call::Lookup(directory, name) => {
-                let location = Location {
-                    directory,
-                    name,
-                    bricks,
-                };
-                Program::LookingUp(LookupCall::new(location, &self.layout))
+        match what {
+            Call::Lookup(directory, _) => {
+                let known = layout_in(&self.known, *directory);
+                let lookup = LookupCall::new(alloc, location, known)?;
+                Ok(Program::LookingUp(lookup))
             }
-            Call::Create(directory, name) => {
-                let location = Location {
-                    directory,
-                    name,
-                    bricks,
-                };
+            Call::Create(_, _) => {
                 let origin = Origin {
                     run,
                     client: self.number,
                     call,
                 };
-                Program::Creating(CreateCall::new(location, origin))
+                let create = CreateCall::new(alloc, location, origin)?;
+                Ok(Program::Creating(create))
+            }
+            Call::Unlink(_, _) => {
+                let Location {
+                    directory,
+                    name,
+                    bricks,
+                } = location;
+                let unlink = Unlink::begin(alloc, bricks, directory, name)?;
+                Ok(Program::Unlinking(unlink))
             }
         }
     }
@@ -94,34 +140,56 @@ impl Caller for Client {
         self.pending.is_none()
     }
 
-    fn start(&mut self, weights: &Weights, run: u32, call: CallNo, what: &Call)
+    fn start(
+        &mut self,
+        alloc: Global,
+        weights: &Weights,
+        run: u32,
+        call: CallNo,
+        what: &Call<Gfid>,
+    ) -> Result<(), Errno>
         requires idle { client_is_busy self.old ≡ false }
         requires few { length weights.now ≤ 32 }
-        requires root { IsInRoot what.now }
-        ensures busy { client_is_busy self.new ≡ true }
         ensures number { client_number self.new ≡ client_number self.old }
-        ensures knows { (s : Scene)
+        ensures refused { IsRefusal (refusal_at_start (length weights.now) what.now) result }
+        ensures busy { client_is_busy self.new ≡ is_ok result }
+        ensures copy { OnOk result ((client_stage self.new).claims.copy ≡ None) }
+        ensures knows { OnOk result ((s : Scene)
             → Begins (client_number self.old) weights.now run call what.now s
-            → (client_stage self.new).knows s }
-        ensures variant { (client_stage self.new).variant ≤ cost (length weights.now) what.now }
-        ensures copy { (client_stage self.new).claims.copy ≡ None }
+            → (client_stage self.new).knows s) }
+        ensures variant { OnOk result ((client_stage self.new).variant
+            ≤ cost (length weights.now) what.now) }
+        // where it is refused, or there is no memory, no call has begun
+        ensures err { OnErr result (self.new ≡ self.old) }
         // a client that knows the layout looks at the holder first
-        ensures asks { (client_stage self.new).asks
-            ≡ first_ask (client_layout self.old) weights.now what.now }
+        ensures asks { OnOk result ((client_stage self.new).asks
+            ≡ first_ask (client_layout self.old (directory_of what.now)) weights.now what.now) }
         // it claims the lock that it asks for first, if it asks for one
-        ensures claims { (client_stage self.new).claims ≡ first_claim (client_stage self.new).asks }
-        ensures steps { (client_stage self.new).variant
-            ≤ most_steps (is_some (client_layout self.old)) (length weights.now) what.now }
-        ensures layout { client_layout self.new ≡ client_layout self.old }
-        ensures learned { client_learned self.new ≡ None }
-        ensures fault { client_fault self.new ≡ None }
+        ensures claims { OnOk result ((client_stage self.new).claims
+            ≡ first_claim (client_stage self.new).asks) }
+        ensures steps { OnOk result ((client_stage self.new).variant
+            ≤ most_steps (is_some (client_layout self.old (directory_of what.now)))
+            (length weights.now) what.now) }
+        ensures known { client_known self.new ≡ client_known self.old }
+        ensures directory { OnOk result
+            (client_directory self.new ≡ Some (directory_of what.now)) }
+        ensures learned { OnOk result (client_learned self.new ≡ None) }
+        ensures fault { OnOk result (client_fault self.new ≡ None) }
     {
-        self.pending = Some(self.program(weights, run, call, what));
+        let location = locate(weights, what)?;
+        match self.program(alloc, location, run, call, what) {
+            Ok(program) => {
+                let directory = what.directory();
+                self.pending = Some(Running { directory, program });
+                Ok(())
+            }
+            Err(_) => Err(Errno::Enomem),
+        }
     }
 
     fn next(&self) -> Ask {
         match &self.pending {
-            Some(program) => program.next(),
+            Some(running) => running.program.next(),
             None => unreachable!(),
         }
     }
@@ -131,7 +199,7 @@ impl Caller for Client {
         ensures number { client_number self.new ≡ client_number self.old }
         ensures moves { CallMoves client_is_busy client_stage self.old self.new reply at result }
         ensures busy { client_is_busy self.new ≡ is_none result }
-        // a call that has read the range of every brick leaves its client the layout
+        // a call that has read the range of every brick leaves its client the layout of its directory
         ensures layout { CallLearns self.old reply result self.new }
         // a call answers Enotconn, Eio or Enomem exactly where a brick was down, failed or had no
         // memory for a request of it; the first such brick decides
@@ -144,13 +212,13 @@ impl Caller for Client {
         ensures again { IsUnanswered (client_stage self.old) reply → self.new ≡ self.old }
     {
         match self.pending.take() {
-            Some(program) => match program.take(reply, at) {
+            Some(Running { directory, program }) => match program.take(reply, at) {
                 Turn::Go(program) => {
-                    self.pending = Some(program);
+                    self.pending = Some(Running { directory, program });
                     None
                 }
                 Turn::Done(end) => {
-                    learn(&mut self.layout, end.layout);
+                    learn(&mut self.known, directory, end.layout);
                     Some(end.finish)
                 }
             },

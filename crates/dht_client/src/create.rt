@@ -1,30 +1,28 @@
 //! Create: under the locks of its name, a call that makes a file where no brick has one.
 
-ghost use Rattle.std.specs.Prelude.{◌≡◌, None, option_map, unwrap_or};
+ghost use Rattle.std.specs.Prelude.{◌≡◌, IfOk, option_map, unwrap_or};
 ghost use Rattle.dht_section.specs.Stages.{Moves};
-ghost use Rattle.dht_brick.specs.declared.replies.Reply.{Reply as AReply};
-ghost use Rattle.dht_section.specs.Replies.{fault_of};
-ghost use Rattle.dht_section.specs.Section.{outcome_ending, outcome_fault, outcome_layout, outcome_location};
 ghost use Rattle.dht_section.specs.declared.machine.Turn.TheVariants as turn;
-ghost use Rattle.dht_client.specs.Again.{IsUnanswered};
-ghost use Rattle.dht_client.specs.Ended.{ended};
-ghost use Rattle.dht_client.specs.Faults.{NotesFault};
-ghost use Rattle.dht_client.specs.Layout.{Learns};
-ghost use Rattle.dht_client.specs.Parts.{Continues};
-ghost use Rattle.dht_client.specs.Create.{ComesOf, create_fault, create_layout, create_stage, create_taught, first_create, new_file};
+ghost use Rattle.dht_section.specs.Again.{IsUnanswered};
+ghost use Rattle.dht_section.specs.Ended.{ended, Learns};
+ghost use Rattle.dht_section.specs.Faults.{NotesFault};
+ghost use Rattle.dht_client.specs.Create.{closed, create_fault, create_held, create_layout, create_stage, create_taught, first_create, new_file};
 ghost use Rattle.dht_client.specs.CreateLaws.{create_permitted, create_stable};
 
-use super::ended::Ended;
 use dht_brick::replies::Reply;
 use dht_brick::requests::{NameRequest, Request};
-use dht_section::closing::{Closing, fault_finish};
-use dht_section::machine::{Ask, Finish, Machine, Turn};
+use dht_section::closing::Closing;
+use dht_section::ended::Ended;
+use dht_section::location::Location;
+use dht_section::looks::What;
+use dht_section::machine::{Ask, Finish, Machine, Turn, fault_finish};
 use dht_section::replies::{fault_of, is_carried};
-use dht_section::section::{Held, Location, Section, SectionOutcome};
+use dht_section::section::{Held, Opened, Section};
 use dht_types::calls::Answer;
 use dht_types::errors::Errno;
 use dht_types::identifiers::{BrickNo, CallNo, ClientNo, Gfid};
 use dht_xattr::layout::Layout;
+use std::alloc::{AllocError, Global};
 
 /// Where a gfid comes from: the call that makes it, of which client and in which run.
 #[derive(Clone, Copy)]
@@ -45,10 +43,10 @@ pub struct NewFile {
 #[derive(Drop)]
 pub enum CreateCall {
     /// Nothing is known of the name.
-    Securing(Origin, Section),
+    Securing(Origin, Location, Section),
     /// Both locks are held, no brick has the name, and the layout is known: the file goes to the
     /// name's holder.
-    Creating(NewFile, Held),
+    Creating(NewFile, Location, Held),
     /// The answer is known, and the layout, if it was read.
     Ending(Closing, Option<Layout>),
 }
@@ -67,37 +65,42 @@ impl Origin {
     }
 }
 
-/// How a create goes on after its section.
-fn secured(origin: Origin, outcome: SectionOutcome) -> CreateCall
-    ensures continues { Continues (outcome_ending outcome)
-        (λ s. ComesOf origin (outcome_location outcome) s) 3 (create_stage result) }
-    ensures fault { (r : AReply) → outcome_fault outcome ≡ fault_of r
-        → create_fault result ≡ fault_of r }
-    ensures layout { create_layout result ≡ outcome_layout outcome }
+/// A create that answers so. Its locks are given back first, and it has learned the layout.
+fn close(location: Location, held: Held, finish: Finish) -> CreateCall
+    ensures { result ≡ closed location held finish }
 {
-    match outcome {
-        SectionOutcome::Held(held) => match held.found {
-            Some(_) => {
-                let finish = Finish {
-                    answer: Answer::Fault(Errno::Eexist),
-                    at: Some(held.at),
-                };
-                CreateCall::Ending(Closing::new(held.location, finish), Some(held.layout))
-            }
-            None => CreateCall::Creating(origin.new_file(held.holder()), held),
-        },
-        SectionOutcome::Stopped(stopped) => {
-            CreateCall::Ending(Closing::of_stopped(stopped), None)
+    let layout = held.layout(location.directory, &location.name);
+    CreateCall::Ending(held.close(finish), Some(layout))
+}
+
+/// How a create goes on whose section is held.
+fn secured(origin: Origin, location: Location, held: Held) -> CreateCall
+    ensures { result ≡ create_held origin location held }
+{
+    let found = held.found(location.directory, &location.name);
+    match found.what {
+        What::Absent => {
+            let holder = held.holder(location.directory, &location.name);
+            CreateCall::Creating(origin.new_file(holder), location, held)
+        }
+        _ => {
+            let finish = Finish {
+                answer: Answer::Fault(Errno::Eexist),
+                at: Some(found.looked),
+            };
+            close(location, held, finish)
         }
     }
 }
 
 impl CreateCall {
-    /// The create of a file at a name, by the call of this origin.
-    pub fn new(location: Location, origin: Origin) -> CreateCall
-        ensures { result ≡ first_create location origin }
+    /// The create of a file at a name, by the call of this origin. It takes the memory that the create
+    /// will need.
+    pub fn new(alloc: Global, location: Location, origin: Origin) -> Result<CreateCall, AllocError>
+        ensures { IfOk result (λ m. m ≡ first_create location origin) }
     {
-        CreateCall::Securing(origin, Section::new(location))
+        let section = location.section(alloc)?;
+        Ok(CreateCall::Securing(origin, location, section))
     }
 }
 
@@ -110,12 +113,12 @@ impl Machine for CreateCall {
 
     fn next(&self) -> Ask {
         match self {
-            CreateCall::Securing(_, section) => section.next(),
-            CreateCall::Creating(new, held) => Ask {
+            CreateCall::Securing(_, _, section) => section.next(),
+            CreateCall::Creating(new, location, _) => Ask {
                 brick: new.holder,
                 request: Request::OnNames(NameRequest::Create(
-                    held.location.directory,
-                    held.location.name,
+                    location.directory,
+                    location.name,
                     new.file,
                 )),
             },
@@ -132,27 +135,23 @@ impl Machine for CreateCall {
         ensures again { IsUnanswered (create_stage self) reply → result ≡ turn.Go self }
     {
         match self {
-            CreateCall::Securing(origin, section) => match section.take(reply, at) {
-                Turn::Go(section) => Turn::Go(CreateCall::Securing(origin, section)),
-                Turn::Done(outcome) => Turn::Go(secured(origin, outcome)),
+            CreateCall::Securing(origin, location, section) => match section.take(reply, at) {
+                Turn::Go(section) => Turn::Go(CreateCall::Securing(origin, location, section)),
+                Turn::Done(Opened::Held(held)) => Turn::Go(secured(origin, location, held)),
+                Turn::Done(Opened::Gone(_, line)) => Turn::Done(Ended::gone(line, None)),
+                Turn::Done(Opened::Stopped(errno)) => Turn::Done(Ended::stopped(errno, None)),
             },
-            CreateCall::Creating(new, held) => match fault_of(&reply) {
-                Some(errno) => Turn::Go(CreateCall::Ending(
-                    Closing::new(held.location, fault_finish(errno)),
-                    Some(held.layout),
-                )),
+            CreateCall::Creating(new, location, held) => match fault_of(&reply) {
+                Some(errno) => Turn::Go(close(location, held, fault_finish(errno))),
                 None => {
                     if is_carried(&reply) {
                         let finish = Finish {
                             answer: Answer::Made(new.file),
                             at: Some(at),
                         };
-                        Turn::Go(CreateCall::Ending(
-                            Closing::new(held.location, finish),
-                            Some(held.layout),
-                        ))
+                        Turn::Go(close(location, held, finish))
                     } else {
-                        Turn::Go(CreateCall::Creating(new, held))
+                        Turn::Go(CreateCall::Creating(new, location, held))
                     }
                 }
             },

@@ -3,7 +3,6 @@
 
 mod calling;
 mod create;
-mod ended;
 mod layout;
 mod lookup;
 mod program;

@@ -1,35 +1,32 @@
 //! Lookup: a look at the name's holder, and where the name is not there, at all bricks under the
 //! locks.
 
-ghost use Rattle.std.specs.Prelude.{◌≡◌, ◌≤◌};
+ghost use Rattle.std.specs.Prelude.{◌≡◌, IfOk};
 ghost use Rattle.dht_types.specs.declared.identifiers.Gfid.{Gfid as AGfid};
 ghost use Rattle.dht_section.specs.Stages.{Moves};
-ghost use Rattle.dht_brick.specs.declared.replies.Reply.{Reply as AReply};
-ghost use Rattle.dht_section.specs.Replies.{fault_of};
-ghost use Rattle.dht_section.specs.Section.{outcome_ending, outcome_fault, outcome_layout, outcome_location};
-ghost use Rattle.dht_section.specs.Shapes.{either};
 ghost use Rattle.dht_section.specs.declared.machine.Turn.TheVariants as turn;
-ghost use Rattle.dht_client.specs.Again.{IsUnanswered};
-ghost use Rattle.dht_client.specs.Ended.{ended};
-ghost use Rattle.dht_client.specs.Faults.{NotesFault};
+ghost use Rattle.dht_section.specs.Again.{IsUnanswered};
+ghost use Rattle.dht_section.specs.Ended.{ended, Learns};
+ghost use Rattle.dht_section.specs.Faults.{NotesFault};
 ghost use Rattle.dht_client.specs.Found.{IsFound, ShowsFile};
-ghost use Rattle.dht_client.specs.Layout.{Learns};
-ghost use Rattle.dht_client.specs.Lookup.{IsLookup, aimed, first_lookup, found_answer, lookup_fault, lookup_layout, lookup_stage, lookup_taught, surveyed};
-ghost use Rattle.dht_client.specs.Parts.{Continues};
+ghost use Rattle.dht_client.specs.Lookup.{aimed, first_lookup, found_answer, looked_up, lookup_fault, lookup_layout, lookup_stage, lookup_taught, surveyed};
 ghost use Rattle.dht_client.specs.LookupLaws.{lookup_permitted, lookup_stable};
 
-use super::ended::Ended;
 use super::layout::holder_in;
 use dht_brick::replies::Reply;
 use dht_brick::requests::{NameRequest, Request};
 use dht_section::closing::Closing;
+use dht_section::ended::Ended;
+use dht_section::location::Location;
+use dht_section::looks::{What, lengthen};
 use dht_section::machine::{Ask, Finish, Machine, Turn};
 use dht_section::replies::{fault_of, file_shown, is_shown, range_shown};
-use dht_section::section::{Location, Place, Section, SectionOutcome, lengthen};
+use dht_section::section::{Held, Opened, Prepared, Section, shows_gone};
 use dht_types::calls::Answer;
 use dht_types::errors::Errno;
 use dht_types::identifiers::BrickNo;
 use dht_xattr::layout::Layout;
+use std::alloc::{AllocError, Global};
 
 /// The name that is looked up, and its holder.
 #[derive(Clone, Copy)]
@@ -39,85 +36,90 @@ pub struct Sought {
 }
 
 /// A lookup, and the layout that it has learned. Each stage is one request, or those of a part that is
-/// a program of its own.
+/// a program of its own. A lookup has the memory for its section from its beginning on.
 #[derive(Drop)]
 pub enum LookupCall {
     /// The layout is not known: the directory's record is asked of every brick, of this one next.
     /// The bricks below it have these ranges.
-    Surveying(Location, BrickNo, Layout),
+    Surveying(Location, Prepared, BrickNo, Layout),
     /// The layout is known, and the name has a holder.
-    LookingAtHolder(Sought, Option<Layout>),
+    LookingAtHolder(Sought, Prepared, Option<Layout>),
     /// The name is not at its holder, or has none.
-    Securing(Section, Option<Layout>),
+    Securing(Location, Section, Option<Layout>),
     /// The answer is known.
     Ending(Closing, Option<Layout>),
 }
 
 /// What a lookup answers.
-fn answer_of(found: Option<Place>) -> Answer
-    ensures { result ≡ found_answer found }
+fn answer_of(what: What) -> Answer
+    ensures { result ≡ found_answer what }
 {
-    match found {
-        Some(place) => Answer::File(place.file),
-        None => Answer::Fault(Errno::Enoent),
+    match what {
+        What::Absent => Answer::Fault(Errno::Enoent),
+        What::Dir(directory) => Answer::Dir(directory),
+        What::File(file, _, _) => Answer::File(file),
     }
 }
 
-/// How a lookup goes on after its section. It has learned the layout that the section read, or else
-/// what it had learned before.
-fn secured(outcome: SectionOutcome, learned: Option<Layout>) -> LookupCall
-    ensures continues { Continues (outcome_ending outcome)
-        (λ s. IsLookup (outcome_location outcome) s) 2 (lookup_stage result) }
-    ensures fault { (r : AReply) → outcome_fault outcome ≡ fault_of r
-        → lookup_fault result ≡ fault_of r }
-    ensures layout { lookup_layout result ≡ either (outcome_layout outcome) learned }
+/// How a lookup goes on whose section is held. It has learned the layout that the section read.
+fn secured(location: Location, held: Held) -> LookupCall
+    ensures { result ≡ looked_up location held }
 {
-    match outcome {
-        SectionOutcome::Held(held) => {
-            let finish = Finish {
-                answer: answer_of(held.found),
-                at: Some(held.at),
-            };
-            LookupCall::Ending(Closing::new(held.location, finish), Some(held.layout))
-        }
-        SectionOutcome::Stopped(stopped) => {
-            LookupCall::Ending(Closing::of_stopped(stopped), learned)
-        }
-    }
+    let found = held.found(location.directory, &location.name);
+    let layout = held.layout(location.directory, &location.name);
+    let finish = Finish {
+        answer: answer_of(found.what),
+        at: Some(found.looked),
+    };
+    LookupCall::Ending(held.close(finish), Some(layout))
 }
 
 /// The lookup of a name by this layout: at its holder, if a brick of the volume is one.
-fn aim(location: Location, learned: Option<Layout>, layout: &Layout) -> LookupCall
-    ensures { result ≡ aimed location learned layout.now }
+fn aim(
+    location: Location,
+    prepared: Prepared,
+    learned: Option<Layout>,
+    layout: &Layout,
+) -> LookupCall
+    ensures { result ≡ aimed location prepared learned layout.now }
 {
     match holder_in(layout, &location.name) {
         Some(holder) if holder.0 < location.bricks => {
-            LookupCall::LookingAtHolder(Sought { location, holder }, learned)
+            LookupCall::LookingAtHolder(Sought { location, holder }, prepared, learned)
         }
-        _ => LookupCall::Securing(Section::new(location), learned),
+        _ => LookupCall::Securing(location, prepared.begin(), learned),
     }
 }
 
 impl LookupCall {
-    /// The lookup of a name, by a client that knows this layout or none.
-    pub fn new(location: Location, known: &Option<Layout>) -> LookupCall
-        ensures { result ≡ first_lookup location known.now }
+    /// The lookup of a name, by a client that knows this layout or none. It takes the memory that the
+    /// lookup will need.
+    pub fn new(
+        alloc: Global,
+        location: Location,
+        known: Option<Layout>,
+    ) -> Result<LookupCall, AllocError>
+        ensures { IfOk result (λ m. m ≡ first_lookup location known) }
     {
+        let prepared = location.prepare(alloc)?;
         match known {
-            Some(layout) => aim(location, None, layout),
-            None => LookupCall::Surveying(location, BrickNo(0), Layout::empty()),
+            Some(layout) => Ok(aim(location, prepared, None, &layout)),
+            None => {
+                let first = BrickNo(0);
+                Ok(LookupCall::Surveying(location, prepared, first, Layout::empty()))
+            }
         }
     }
 }
 
 /// After a brick showed the directory's range, with the ranges of all bricks up to it.
-fn survey_on(location: Location, brick: BrickNo, layout: Layout) -> LookupCall
-    ensures { result ≡ surveyed location brick layout }
+fn survey_on(location: Location, prepared: Prepared, brick: BrickNo, layout: Layout) -> LookupCall
+    ensures { result ≡ surveyed location prepared brick layout }
 {
     if location.bricks.saturating_sub(brick.0) <= 1 {
-        aim(location, Some(layout), &layout)
+        aim(location, prepared, Some(layout), &layout)
     } else {
-        LookupCall::Surveying(location, BrickNo(brick.0 + 1), layout)
+        LookupCall::Surveying(location, prepared, BrickNo(brick.0 + 1), layout)
     }
 }
 
@@ -130,18 +132,18 @@ impl Machine for LookupCall {
 
     fn next(&self) -> Ask {
         match self {
-            LookupCall::Surveying(location, brick, _) => Ask {
+            LookupCall::Surveying(location, _, brick, _) => Ask {
                 brick: *brick,
                 request: Request::OnNames(NameRequest::Dirinfo(location.directory)),
             },
-            LookupCall::LookingAtHolder(sought, _) => Ask {
+            LookupCall::LookingAtHolder(sought, _, _) => Ask {
                 brick: sought.holder,
                 request: Request::OnNames(NameRequest::Look(
                     sought.location.directory,
                     sought.location.name,
                 )),
             },
-            LookupCall::Securing(section, _) => section.next(),
+            LookupCall::Securing(_, section, _) => section.next(),
             LookupCall::Ending(closing, _) => closing.next(),
         }
     }
@@ -158,25 +160,33 @@ impl Machine for LookupCall {
         ensures again { IsUnanswered (lookup_stage self) reply → result ≡ turn.Go self }
     {
         match self {
-            LookupCall::Surveying(location, brick, layout) => match fault_of(&reply) {
+            LookupCall::Surveying(location, prepared, brick, layout) => match fault_of(&reply) {
                 Some(errno) => Turn::Done(Ended::stopped(errno, None)),
+                None if shows_gone(location.directory, brick, &reply) => {
+                    Turn::Done(Ended::gone(at, None))
+                }
                 None if is_shown(&reply) => {
                     let layout = lengthen(layout, range_shown(&reply));
-                    Turn::Go(survey_on(location, brick, layout))
+                    Turn::Go(survey_on(location, prepared, brick, layout))
                 }
-                None => Turn::Go(LookupCall::Surveying(location, brick, layout)),
+                None => Turn::Go(LookupCall::Surveying(location, prepared, brick, layout)),
             },
-            LookupCall::LookingAtHolder(sought, learned) => match fault_of(&reply) {
+            LookupCall::LookingAtHolder(sought, prepared, learned) => match fault_of(&reply) {
                 Some(errno) => Turn::Done(Ended::stopped(errno, learned)),
                 None if is_shown(&reply) => match file_shown(&reply) {
                     Some(file) => Turn::Done(Ended::found(file, at, learned)),
-                    None => Turn::Go(LookupCall::Securing(Section::new(sought.location), learned)),
+                    None => {
+                        let section = prepared.begin();
+                        Turn::Go(LookupCall::Securing(sought.location, section, learned))
+                    }
                 },
-                None => Turn::Go(LookupCall::LookingAtHolder(sought, learned)),
+                None => Turn::Go(LookupCall::LookingAtHolder(sought, prepared, learned)),
             },
-            LookupCall::Securing(section, learned) => match section.take(reply, at) {
-                Turn::Go(section) => Turn::Go(LookupCall::Securing(section, learned)),
-                Turn::Done(outcome) => Turn::Go(secured(outcome, learned)),
+            LookupCall::Securing(location, section, learned) => match section.take(reply, at) {
+                Turn::Go(section) => Turn::Go(LookupCall::Securing(location, section, learned)),
+                Turn::Done(Opened::Held(held)) => Turn::Go(secured(location, held)),
+                Turn::Done(Opened::Gone(_, line)) => Turn::Done(Ended::gone(line, learned)),
+                Turn::Done(Opened::Stopped(errno)) => Turn::Done(Ended::stopped(errno, learned)),
             },
             LookupCall::Ending(closing, learned) => match closing.take(reply, at) {
                 Turn::Go(closing) => Turn::Go(LookupCall::Ending(closing, learned)),

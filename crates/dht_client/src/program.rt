@@ -4,18 +4,18 @@ ghost use Rattle.std.specs.Prelude.{◌≡◌};
 ghost use Rattle.dht_types.specs.declared.identifiers.Gfid.{Gfid as AGfid};
 ghost use Rattle.dht_section.specs.Stages.{Moves};
 ghost use Rattle.dht_section.specs.declared.machine.Turn.TheVariants as turn;
-ghost use Rattle.dht_client.specs.Again.{IsUnanswered};
-ghost use Rattle.dht_client.specs.Ended.{ended};
-ghost use Rattle.dht_client.specs.Faults.{NotesFault};
+ghost use Rattle.dht_section.specs.Again.{IsUnanswered};
+ghost use Rattle.dht_section.specs.Ended.{ended, Learns};
+ghost use Rattle.dht_section.specs.Faults.{NotesFault};
 ghost use Rattle.dht_client.specs.Found.{IsFound, ShowsFile};
-ghost use Rattle.dht_client.specs.Layout.{Learns};
 ghost use Rattle.dht_client.specs.Program.{program_fault, program_layout, program_stage, program_taught};
 ghost use Rattle.dht_client.specs.ProgramLaws.{program_permitted, program_stable};
 
 use super::create::CreateCall;
-use super::ended::Ended;
 use super::lookup::LookupCall;
 use dht_brick::replies::Reply;
+use dht_fileops::unlink::Unlink;
+use dht_section::ended::Ended;
 use dht_section::machine::{Ask, Machine, Turn};
 
 /// The program of a call.
@@ -23,6 +23,7 @@ use dht_section::machine::{Ask, Machine, Turn};
 pub enum Program {
     LookingUp(LookupCall),
     Creating(CreateCall),
+    Unlinking(Unlink),
 }
 
 impl Machine for Program {
@@ -37,6 +38,7 @@ impl Machine for Program {
         match self {
             Program::LookingUp(call) => call.next(),
             Program::Creating(call) => call.next(),
+            Program::Unlinking(call) => call.next(),
         }
     }
 
@@ -59,6 +61,10 @@ impl Machine for Program {
             },
             Program::Creating(call) => match call.take(reply, at) {
                 Turn::Go(call) => Turn::Go(Program::Creating(call)),
+                Turn::Done(end) => Turn::Done(end),
+            },
+            Program::Unlinking(call) => match call.take(reply, at) {
+                Turn::Go(call) => Turn::Go(Program::Unlinking(call)),
                 Turn::Done(end) => Turn::Done(end),
             },
         }

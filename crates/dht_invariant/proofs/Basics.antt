@@ -1,6 +1,6 @@
 -- Small facts that every law of the invariant uses.
 use Rattle.std.proofs.Common.{◌≡◌, ◌≢◌, ◌<◌, ℕ, arith, Bool, true, false, refl, sym, ap, ◌∙◌, inl, inr, ◌⊎◌}
-use Rattle.std.specs.Prelude.{Option, Some, None, nat_eq, is_some, if◌then◌else◌}
+use Rattle.std.specs.Prelude.{Option, Some, None, nat_eq, is_some, ◌&&◌, if◌then◌else◌}
 use Rattle.dht_types.specs.Put.{Exact, same_entry}
 use Rattle.dht_types.specs.Gfid.{Entry, anchor, same_gfid}
 use Rattle.dht_types.proofs.PutLaws.{exact_nat, exact_entry, exact_gfid}
@@ -35,6 +35,10 @@ true_false b h k = let e : true ≡ false = sym h ∙ k in cc
 pub not_true : (b : Bool) → (b ≡ true → ⊥) → b ≡ false
 not_true true h = absurd (h refl)
 not_true false h = refl
+
+pub both_true : (v w : Bool) → (v && w) ≡ true → (v ≡ true) × (w ≡ true)
+both_true true w h = (refl, h)
+both_true false w h = absurd (let z : false ≡ true = h in cc)
 
 pub is_there : {A : Type 0} (o : Option A) → is_some o ≡ true → (x : A) × (o ≡ Some x)
 is_there None h = absurd (let e : false ≡ true = h in cc)

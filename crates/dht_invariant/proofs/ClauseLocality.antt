@@ -14,16 +14,18 @@ use Rattle.dht_types.specs.declared.stored.DirRecord.{DirRecord}
 use Rattle.dht_brick.specs.Contents.{Store}
 use Rattle.dht_brick.specs.declared.replies.Reply.{Reply}
 use Rattle.dht_brick.specs.declared.replies.Reply.TheVariants.{Ok as Carried}
-use Rattle.dht_brick.specs.declared.requests.NameRequest.TheVariants.{Create}
+use Rattle.dht_brick.specs.declared.requests.NameRequest.TheVariants.{Create, Unlink}
 use Rattle.dht_brick.specs.declared.requests.Request.{Request}
 use Rattle.dht_brick.specs.declared.requests.Request.TheVariants.{OnNames}
+use Rattle.dht_section.specs.declared.machine.Ask.{Ask}
 use Rattle.dht_section.specs.Claims.{Claim, Listed, places_of}
 use Rattle.dht_section.specs.Disk.{Disk, holders}
 use Rattle.dht_section.specs.Dirs.{DirInvariant, PlacedAt, CopyAt}
 use Rattle.dht_section.specs.Files.{FileInvariant}
 use Rattle.dht_section.specs.Invariant.{most_hops}
 use Rattle.dht_section.specs.Locks.{LockInvariant}
-use Rattle.dht_section.specs.Moves.{outcome_of, request_step, step_of, tree_by}
+use Rattle.dht_section.specs.Moves.{Guarantee, outcome_of, request_step, step_of, tree_by}
+use Rattle.dht_section.specs.Scene.{Scene}
 use Rattle.dht_section.specs.Views.{DirView, cores_of, view_of, dir_view}
 use Rattle.dht_invariant.specs.Laws.{ClausesAreLocal, RequestsLeaveOthers, AnswersLeaveOthers}
 use Rattle.dht_invariant.specs.Locality.{Reach, ChangesWithin, HousedClause, ByFileRecord, OthersStand, SameDir, ShowsTheSame, SlotStays, Same, Went, reach, stored_by}
@@ -33,7 +35,7 @@ use Rattle.dht_invariant.proofs.ServedLaws.{served_is}
 use Rattle.dht_invariant.proofs.ViewLocality.{requests_are_local, shows_the_same}
 
 -- hops may grow with the lines
-hops_grow : (s t : History) → s.size ≤ t.size → most_hops s ≤ most_hops t
+pub hops_grow : (s t : History) → s.size ≤ t.size → most_hops s ≤ most_hops t
 hops_grow s t l = omega arith
 
 -- ---- directories
@@ -92,16 +94,19 @@ clauses_are_local d e t u low top p q count higher = record {
 
 tree_names : (q : Request) (s : Store) (t : Tree) (x : Entry) → (stored_by q s).slot ≢ Some x → (tree_by (request_step q) t).names x ≡ t.names x
 tree_names (OnNames (Create d n f)) s t x ne = put_other same_entry exact_entry t.names (d, n) (Some (IsFile f)) x (λ q. ne (ap Some (sym q)))
+tree_names (OnNames (Unlink d n f)) s t x ne = put_other same_entry exact_entry t.names (d, n) None x (λ q. ne (ap Some (sym q)))
 tree_names (OnNames q) s t x ne = refl
 tree_names q s t x ne = refl
 
 tree_bytes : (q : Request) (s : Store) (t : Tree) (f : Gfid) → (stored_by q s).file ≢ Some f → (tree_by (request_step q) t).bytes f ≡ t.bytes f
 tree_bytes (OnNames (Create d n g)) s t f ne = put_other same_gfid exact_gfid t.bytes g (Some []) f (λ q. ne (ap Some (sym q)))
+tree_bytes (OnNames (Unlink d n g)) s t f ne = refl
 tree_bytes (OnNames q) s t f ne = refl
 tree_bytes q s t f ne = refl
 
 tree_dirs : (q : Request) (t : Tree) (g : Gfid) → (tree_by (request_step q) t).dirs g ≡ t.dirs g
 tree_dirs (OnNames (Create d n f)) t g = refl
+tree_dirs (OnNames (Unlink d n f)) t g = refl
 tree_dirs (OnNames q) t g = refl
 tree_dirs q t g = refl
 
@@ -143,17 +148,27 @@ requests_leave_others client call b q d e t low top claims carried higher =
     others_stand (reach client call q s) b d e t (tree_by (request_step q) t) low top claims (requests_are_local client call b q d e carried)
     (record { names = λ x ne. tree_names q s t x ne; bytes = λ f ne. tree_bytes q s t f ne; dirs = λ g. tree_dirs q t g }) higher
 
+-- what a request of mine reaches, what it changed on its brick, and what all bricks show of all else
+abbrev pub reach_of : Scene → Ask → Reach
+reach_of s a = reach s.who s.mine.number a.request (s.disk.brick a.brick.0).store
+
+pub answer_changes : (s t : Scene) (a : Ask) (r : Reply) (m : Guarantee s a r t) → ChangesWithin (reach_of s a) (s.disk.brick a.brick.0) m.new
+answer_changes s t a r m =
+    let old = s.disk.brick a.brick.0 in
+    served_is (ChangesWithin (reach_of s a) old) (outcome_of s a) old m.real m.new (row_within _ s.who s.mine.number a.request old) (unchanged_within (reach_of s a) old) m.served
+
+pub answer_shows : (s t : Scene) (a : Ask) (r : Reply) → Guarantee s a r t → ShowsTheSame (reach_of s a) a.brick.0 s.disk t.disk
+answer_shows s t a r m = shows_the_same (reach_of s a) a.brick.0 s.disk t.disk m.new m.disk (answer_changes s t a r m)
+
 pub answers_leave_others : AnswersLeaveOthers
 answers_leave_others s t a r m =
-    let old = s.disk.brick a.brick.0 in
-    let p = reach s.who s.mine.number a.request old.store in
+    let store = (s.disk.brick a.brick.0).store in
     let tree = s.history.tree in
-    let changed : ChangesWithin p old m.new = served_is (ChangesWithin p old) (outcome_of s a) old m.real m.new (row_within _ s.who s.mine.number a.request old) (unchanged_within p old) m.served in
-    others_stand p a.brick.0 s.disk t.disk tree t.history.tree (most_hops s.history) (most_hops t.history) s.claims
-    (shows_the_same p a.brick.0 s.disk t.disk m.new m.disk changed)
+    others_stand (reach_of s a) a.brick.0 s.disk t.disk tree t.history.tree (most_hops s.history) (most_hops t.history) s.claims
+    (answer_shows s t a r m)
     (record {
-      names = λ x ne. ap (λ (u : Tree). u.names x) m.tree ∙ step_names a.request m.real old.store tree x ne;
-      bytes = λ f ne. ap (λ (u : Tree). u.bytes f) m.tree ∙ step_bytes a.request m.real old.store tree f ne;
+      names = λ x ne. ap (λ (u : Tree). u.names x) m.tree ∙ step_names a.request m.real store tree x ne;
+      bytes = λ f ne. ap (λ (u : Tree). u.bytes f) m.tree ∙ step_bytes a.request m.real store tree f ne;
       dirs = λ g. ap (λ (u : Tree). u.dirs g) m.tree ∙ step_dirs a.request m.real tree g;
     })
     (hops_grow s.history t.history m.later)

@@ -125,6 +125,7 @@ module _ (d e f : Disk) (s t u : History) (p q r : ℕ → Claim) (w : ClientNo)
     known = λ g h i. two.known g (dir_stays g h) (one.known g h i);
     used = λ i h. two.used i (one.used i h);
     sealed = λ i h. two.sealed i (one.sealed i h);
+    nameless = λ i h. two.nameless i (one.nameless i h);
     later = (let l = one.later in let m = two.later in omega arith);
     past = λ j l. (let m = one.later in two.past j (omega arith) ∙ one.past j l);
   }

@@ -128,7 +128,7 @@ module _ (d e : Disk) (t : Tree) (b : ℕ) (x : Entry) (f : Gfid) (top : ℕ) (p
   pub no_link : (i : ℕ) (y : Entry) → i < d.count → links_to f (slot_at d i y) ≡ true → ⊥
   no_link i y l h = (let q : main_brick Gone ≡ Some i = ap main_brick (sym was_gone) ∙ file_was.linked i y l h in let z : None ≡ Some i = q in cc)
 
-  same_copies : (g : Gfid) (i : ℕ) (y : Entry) → is_copy g (slot_at e i y).standby ≡ is_copy g (slot_at d i y).standby
+  pub same_copies : (g : Gfid) (i : ℕ) (y : Entry) → is_copy g (slot_at e i y).standby ≡ is_copy g (slot_at d i y).standby
   same_copies g i y = slots_keep (λ (p : Slot). is_copy g p.standby) (ap (λ (p : Slot). is_copy g p.standby) m.slot) i y
 
   no_copy : (i : ℕ) (y : Entry) → i < d.count → is_copy f (slot_at d i y).standby ≡ false
@@ -163,7 +163,7 @@ module _ (d e : Disk) (t : Tree) (b : ℕ) (x : Entry) (f : Gfid) (top : ℕ) (p
     kept = λ bytes shown h q. (let z : shown ≡ bytes = cc in z);
   }
 
-  links_other : (g : Gfid) → g ≢ f → links_to g (slot_at e b x) ≡ links_to g (slot_at d b x)
+  pub links_other : (g : Gfid) → g ≢ f → links_to g (slot_at e b x) ≡ links_to g (slot_at d b x)
   links_other g ne =
       let standby : (slot_at d b x).standby ≡ None = ap (λ (s : Slot). s.standby) was_bare in
       ap (links_to g) m.slot

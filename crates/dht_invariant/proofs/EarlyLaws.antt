@@ -1,4 +1,4 @@
--- What follows of names and files while calls only look for files and make them.
+-- What follows of names and files while calls only look for files, make them and unlink them.
 use Rattle.std.proofs.Common.{◌≡◌, ◌≢◌, ◌<◌, ℕ, Bool, refl, sym, ap, ◌∙◌, subst, inl, inr, ◌⊎◌}
 use Rattle.std.specs.Prelude.{Option, Some, None}
 use Rattle.dht_types.specs.Gfid.{Entry, home}

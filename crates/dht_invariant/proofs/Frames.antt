@@ -23,6 +23,8 @@ use Rattle.dht_section.specs.Invariant.{Used, ByBytes, ByDir, ByRecord, ByCopy, 
 use Rattle.dht_section.specs.Locks.{LockInvariant}
 use Rattle.dht_invariant.proofs.Basics.{is_there}
 use Rattle.dht_section.specs.Names.{NameInvariant}
+use Rattle.dht_section.specs.Rely as rely
+use Rattle.dht_section.specs.Rely.{IsFileUsed}
 use Rattle.dht_section.specs.Shapes.{NameFits}
 use Rattle.dht_section.specs.Views.{FileView, DirView, visible, core, links_to, view_of, dir_view}
 
@@ -125,3 +127,9 @@ used_kept d e t u g count bytes dirs files copies sealed (ByRecord b r l h) =
     ByRecord b q.0 (subst (λ (c : ℕ). b < c) (sym count) l) q.1
 used_kept d e t u g count bytes dirs files copies sealed (ByCopy b l h) = ByCopy b (subst (λ (c : ℕ). b < c) (sym count) l) (copies b h)
 used_kept d e t u g count bytes dirs files copies sealed (BySeal h) = BySeal (sealed ∙ h)
+
+-- what is used as a file's is used
+pub file_is_used : (d : Disk) (t : Tree) (f : Gfid) → IsFileUsed d t f → Used d t f
+file_is_used d t f (rely.ByBytes h) = ByBytes h
+file_is_used d t f (rely.ByRecord b r l h) = ByRecord b r l h
+file_is_used d t f (rely.BySeal h) = BySeal h

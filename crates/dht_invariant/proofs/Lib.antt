@@ -25,3 +25,9 @@ pub mod LinktoKeeps
 pub mod RowLocality
 pub mod ViewLocality
 pub mod ClauseLocality
+pub mod NoMoreLaws
+pub mod ShapeLaws
+pub mod SealKeeps
+pub mod DropKeeps
+pub mod UnlinkKeeps
+pub mod RemovalKeeps

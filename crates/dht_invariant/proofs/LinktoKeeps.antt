@@ -1,6 +1,6 @@
 -- A linkto that comes or goes is in no part of the invariant.
 use Rattle.std.proofs.Common.{◌≡◌, ◌≢◌, ◌<◌, ℕ, Bool, true, false, List, refl, sym, ap, ◌∙◌, subst, inl, inr, arith}
-use Rattle.std.specs.Prelude.{Option, Some, None, is_some, is_none, unwrap_or, ◌&&◌, if◌then◌else◌}
+use Rattle.std.specs.Prelude.{Option, Some, None, is_some, is_none, unwrap_or, if◌then◌else◌}
 use Rattle.std.specs.FinMap.{insert, remove}
 use Rattle.dht_types.specs.Gfid.{Entry, root}
 use Rattle.dht_types.specs.Tree.{Tree}
@@ -37,7 +37,7 @@ use Rattle.dht_section.specs.Views.{visible, core, cores_of, links_to, view_of, 
 use Rattle.dht_invariant.specs.Laws.{IsOfLinkto, LinktoLeaves, LinktosKeep}
 use Rattle.dht_invariant.specs.Makes.{Framed}
 use Rattle.dht_invariant.specs.Touches.{Touches}
-use Rattle.dht_invariant.proofs.Basics.{nat_cases, entry_cases, other_some}
+use Rattle.dht_invariant.proofs.Basics.{nat_cases, entry_cases, other_some, both_true}
 use Rattle.dht_invariant.proofs.Frames.{brick_by, brick_is, kept_by, links_core, plain_core, dir_core, name_kept, file_kept, dir_kept, lock_kept, view_same, dir_view_same}
 use Rattle.dht_invariant.proofs.ServedLaws.{within_keeps, served_is}
 use Rattle.dht_invariant.proofs.TouchLaws.{one_slot_touches}
@@ -45,16 +45,8 @@ use Rattle.dht_invariant.proofs.TouchLaws.{one_slot_touches}
 -- ---- what the row leaves
 
 bare_is : (p : Slot) → is_bare p ≡ true → bare ≡ p
-bare_is p e = λ i. record { main = none_is p.main (first (is_none p.main) (is_none p.standby) e) i; standby = none_is p.standby (second (is_none p.main) (is_none p.standby) e) i }
+bare_is p e = (let q = both_true (is_none p.main) (is_none p.standby) e in λ i. record { main = none_is p.main q.0 i; standby = none_is p.standby q.1 i })
   where
-    first : (v w : Bool) → (v && w) ≡ true → v ≡ true
-    first true w h = refl
-    first false w h = h
-
-    second : (v w : Bool) → (v && w) ≡ true → w ≡ true
-    second true w h = h
-    second false w h = absurd (let z : false ≡ true = h in cc)
-
     none_is : {A : Type 0} (o : Option A) → is_none o ≡ true → None ≡ o
     none_is None h = refl
     none_is (Some x) h = absurd (let z : false ≡ true = h in cc)
@@ -279,6 +271,10 @@ module _ (s t : Scene) (b : BrickNo) (q : NameRequest) (r : Reply) (h : IsOfLink
     dirs = λ g. ap (λ (u : Tree). u.dirs g) tree;
     bytes = λ g k none. k (sym (ap (λ (u : Tree). u.bytes g) tree) ∙ none);
     recorded = λ i g k. ap is_some (files_stay i g) ∙ k;
+    unnamed = λ g k. (
+      links_core g (slot_at t.disk b.0 name) ∙ (ap (links_to g) (cores_stay b.0 name) ∙ (sym (links_core g (slot_at s.disk b.0 name)) ∙ k.links b.0 name there)),
+      ap (λ (p : Slot). is_copy g p.standby) (cores_stay b.0 name) ∙ k.copies b.0 name there,
+    );
   })
 
   pub linkto_leaves : LinktoLeaves s t

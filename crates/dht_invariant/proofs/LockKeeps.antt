@@ -12,13 +12,14 @@ use Rattle.dht_brick.specs.Contents.{Contents, Locks}
 use Rattle.dht_brick.specs.LockRows.{same_key, held, excludes, hold_excludes, keeps_out, lowest, first_of, awaited, unless_awaited}
 use Rattle.dht_brick.specs.NameRows.{name_row}
 use Rattle.dht_brick.specs.FileRows.{file_row}
+use Rattle.dht_brick.specs.OpenRows.{seal_row}
 use Rattle.dht_brick.specs.Outcome.{Do, within, left_by}
-use Rattle.dht_brick.specs.Rows.{row, with_store, with_locks}
+use Rattle.dht_brick.specs.Rows.{row, with_store, with_opens, with_locks}
 use Rattle.dht_brick.proofs.LockLaws.{exact_key}
 use Rattle.dht_brick.specs.declared.replies.Given.TheVariants as given
 use Rattle.dht_brick.specs.declared.replies.Reply.{Reply}
 use Rattle.dht_brick.specs.declared.requests.Request.{Request}
-use Rattle.dht_brick.specs.declared.requests.Request.TheVariants.{Lock, Unlock, OnNames, OnFile}
+use Rattle.dht_brick.specs.declared.requests.Request.TheVariants.{Lock, Unlock, Seal, OnNames, OnFile}
 use Rattle.dht_section.specs.declared.machine.Ask.{Ask}
 use Rattle.dht_section.specs.Claims.{Claim, Listed}
 use Rattle.dht_section.specs.Disk.{holders}
@@ -131,6 +132,7 @@ row_keeps bricks s b (Lock key mode) c may low k =
 row_keeps bricks s b (Unlock key) c may low k = key_keeps b s.claims c s.who.0 key None k low (λ m e. absurd (let z : None ≡ Some m = e in cc)) (λ x m n ne h e. absurd (let z : None ≡ Some n = e in cc))
 row_keeps bricks s b (OnNames q) c may low k = same_locks b s.claims c (left_by (row bricks s.who s.mine.number (OnNames q) c) c) (within_keeps (λ (x : Contents). x.locks) (with_store c) (name_row bricks q c.store) c (λ a. refl)) k
 row_keeps bricks s b (OnFile q) c may low k = same_locks b s.claims c (left_by (row bricks s.who s.mine.number (OnFile q) c) c) (within_keeps (λ (x : Contents). x.locks) (with_store c) (file_row bricks q c.store) c (λ a. refl)) k
+row_keeps bricks s b (Seal f) c may low k = same_locks b s.claims c (left_by (row bricks s.who s.mine.number (Seal f) c) c) (within_keeps (λ (x : Contents). x.locks) (with_opens c) (seal_row f c.opens) c (λ a. refl)) k
 row_keeps bricks s b q c may low k = absurd may
 
 pub locks_moved : (s t : Scene) (a : Ask) (r : Reply) → Guarantee s a r t → Permitted s a → s.who.0 < 65536 → ((b : ℕ) (key : Key) → b < s.disk.count → LockInvariant b key (holders s.disk b key) s.claims) → (b : ℕ) (key : Key) → b < t.disk.count → LockInvariant b key (holders t.disk b key) t.claims

@@ -20,7 +20,7 @@ use Rattle.dht_section.specs.Early.{Early, IsPlain}
 use Rattle.dht_section.specs.Invariant.{Invariant, Things, Used, NothingUsed, most_hops}
 use Rattle.dht_section.specs.Locks.{LockInvariant}
 use Rattle.dht_section.specs.Names.{StandsAs}
-use Rattle.dht_section.specs.Rely.{Rely, IsFileUsed, ByBytes, ByRecord, BySeal, outline}
+use Rattle.dht_section.specs.Rely.{Rely, IsFileUsed, IsNameless, ByBytes, ByRecord, BySeal, outline}
 use Rattle.dht_section.specs.Shapes.{NameShape, NameFits}
 use Rattle.dht_section.specs.Views.{core, cores_of, links_to, view_of, dir_view}
 use Rattle.dht_invariant.specs.Transition.{Transition, scene}
@@ -144,6 +144,13 @@ module _ (d e : Disk) (m : SameStores d e) where
     file_used_same f (ByRecord b r l k) = ByRecord b r (subst (λ (n : ℕ). b < n) (sym m.count) l) (files_same b f ∙ k)
     file_used_same f (BySeal k) = BySeal (sealed_same f ∙ k)
 
+    nameless_same : (f : Gfid) → IsNameless d s.tree f → IsNameless e t.tree f
+    nameless_same f k = record {
+      used = file_used_same f k.used;
+      links = λ i x l. ap (links_to f) (slots_same i x) ∙ k.links i x (within i l);
+      copies = λ i x l. ap (λ (p : Slot). is_copy f p.standby) (slots_same i x) ∙ k.copies i x (within i l);
+    }
+
     stands_same : (x : Entry) (a : NameShape) → StandsAs d.count (cores_of d x) (s.tree.names x) a → StandsAs e.count (cores_of e x) (t.tree.names x) a
     stands_same x a st = record {
       fits = subst (λ (n : ℕ). NameFits n a) (sym m.count) st.fits;
@@ -168,6 +175,7 @@ module _ (d e : Disk) (m : SameStores d e) where
       known = λ g i k. ap (λ (u : Tree). u.dirs g) h.tree ∙ k;
       used = file_used_same;
       sealed = λ f k. sealed_same f ∙ k;
+      nameless = nameless_same;
       later = h.later;
       past = h.past;
     }

@@ -70,6 +70,7 @@ module _ (o : Scene) (w : ClientNo) (r : PendingCall) (ne : w.0 ≢ o.who.0) (so
     known = λ g i d. elim (h.known g d) [ inl q ↦ absurd (clash_dir g q i) | inr q ↦ q ];
     used = h.used;
     sealed = h.sealed;
+    nameless = h.nameless;
     later = later;
     past = past;
   }

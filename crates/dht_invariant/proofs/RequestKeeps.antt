@@ -1,5 +1,5 @@
 -- A permitted request, however it was answered, is a transition.
-use Rattle.std.proofs.Common.{◌≡◌, ◌≢◌, ◌<◌, ◌≤◌, ◌^◌, ℕ, true, [], refl, sym, ap, ◌∙◌, subst, inl, inr, length, arith}
+use Rattle.std.proofs.Common.{◌≡◌, ◌≢◌, ◌<◌, ◌≤◌, ◌^◌, ℕ, true, false, [], refl, sym, ap, ◌∙◌, subst, inl, inr, length, arith}
 use Rattle.std.specs.Prelude.{Option, Some, None, nat_eq, is_some, Any}
 use Rattle.dht_types.proofs.PutLaws.{put_same, put_other, exact_nat, exact_entry, exact_gfid}
 use Rattle.dht_types.specs.Put.{same_entry}
@@ -22,7 +22,7 @@ use Rattle.dht_xattr.specs.Plan.{planned}
 use Rattle.dht_brick.specs.Contents.{Contents, Store, Opens, bare, slot, dir, file}
 use Rattle.dht_brick.specs.Locality.{name_places}
 use Rattle.dht_brick.specs.OpenRows.{is_sealed}
-use Rattle.dht_brick.specs.Parts.{with_main}
+use Rattle.dht_brick.specs.Parts.{is_copy, with_main}
 use Rattle.dht_brick.specs.declared.requests.NameRequest.TheVariants.{Create}
 use Rattle.dht_brick.specs.declared.requests.Request.TheVariants.{OnNames}
 use Rattle.dht_brick.specs.declared.replies.Reply.{Reply}
@@ -33,24 +33,27 @@ use Rattle.dht_section.specs.Truth.{plain}
 use Rattle.dht_section.specs.Early.{Early, IsPlain, IsUnmoved}
 use Rattle.dht_section.specs.Invariant.{Invariant, Things, Used, NothingUsed, most_hops}
 use Rattle.dht_section.specs.Locks.{LockInvariant}
-use Rattle.dht_section.specs.Moves.{Guarantee, tree_by, deeds_by}
+use Rattle.dht_section.specs.Moves.{Guarantee, step_of, tree_by, deeds_by}
 use Rattle.dht_section.specs.Permits.{May, Permitted, Changes}
+use Rattle.dht_section.specs.Rely.{IsFileUsed, IsNameless}
 use Rattle.dht_section.specs.Scene.{Scene, Sound}
 use Rattle.dht_section.specs.Views.{core, links_to}
+use Rattle.dht_invariant.specs.Laws.{RemovalLeaves}
 use Rattle.dht_invariant.specs.Makes.{Makes, IsNew}
 use Rattle.dht_invariant.specs.Touches.{Touches, OwnsFile}
 use Rattle.dht_invariant.specs.Transition.{Transition, OnlyMine}
 use Rattle.dht_invariant.proofs.Basics.{nat_cases, entry_cases, gfid_cases}
 use Rattle.dht_invariant.proofs.ContentsLaws.{slot_at_new, slot_off_new, file_at_new, file_off_new}
-use Rattle.dht_invariant.proofs.CreateKeeps.{no_link, create_keeps}
+use Rattle.dht_invariant.proofs.CreateKeeps.{no_link, same_copies, links_other, create_keeps}
 use Rattle.dht_invariant.proofs.EarlyLaws.{stands_plainly}
-use Rattle.dht_invariant.proofs.Frames.{brick_by, brick_is, kept_by, used_kept}
+use Rattle.dht_invariant.proofs.Frames.{brick_by, brick_is, kept_by, file_is_used, used_kept}
 use Rattle.dht_invariant.proofs.LayoutLaws.{layout_same}
 use Rattle.dht_invariant.proofs.LockKeeps.{locks_moved}
 use Rattle.dht_invariant.proofs.OwnLaws.{own_is}
 use Rattle.dht_invariant.proofs.QuietKeeps.{SameStores, SameHistory, at_most, same_opens, same_stores, things_same, used_same, transition_same}
 use Rattle.dht_invariant.proofs.RelyLaws.{others_of}
-use Rattle.dht_invariant.proofs.RowEffects.{Quiet, Adds, effect}
+use Rattle.dht_invariant.proofs.RemovalKeeps.{removals_keep}
+use Rattle.dht_invariant.proofs.RowEffects.{Quiet, Adds, IsQuiet, IsCreate, Removes, effect}
 use Rattle.dht_invariant.proofs.ServedLaws.{others_hold}
 use Rattle.dht_invariant.proofs.TouchLaws.{OneSlot, one_slot_touches}
 
@@ -79,6 +82,19 @@ module _ (s t : Scene) (a : Ask) (r : Reply) (m : Guarantee s a r t) (sound : So
 
   elsewhere : (b : ℕ) → s.disk.count ≤ b → t.disk.brick b ≡ s.disk.brick b
   elsewhere b l = brick_by (λ (c : Contents). c ≡ s.disk.brick b) s.disk t.disk a.brick.0 m.new b m.disk (λ e. (let there = p.there in absurd (omega arith))) (λ x. refl)
+
+  -- what keeps the invariant and touches no more than it may is a transition
+  changed_transition : Invariant t.disk t.history t.claims → Early t.disk t.history → Touches s t.disk t.history.tree → Transition s.who.0 s.disk s.history s.claims t.disk t.history t.claims
+  changed_transition kept early touches = record {
+    count = m.disk.count;
+    kept = kept;
+    early = early;
+    later = m.later;
+    pending = others_wait;
+    claims = λ w ne. ap (λ (x : ℕ → Claim). x w) m.claims;
+    elsewhere = elsewhere;
+    others = λ w r ne. others_of s w r ne sound.kept.some_brick sound.kept.things.locks t.disk t.history t.claims touches m.run m.weights m.later m.past;
+  }
 
   -- ---- a request that made nothing
 
@@ -308,6 +324,15 @@ module _ (s t : Scene) (a : Ask) (r : Reply) (m : Guarantee s a r t) (sound : So
       | inr ne ↦ k (sym (put_other same_gfid exact_gfid s.history.tree.bytes q.file (Some []) g ne) ∙ none)
     ]
 
+    unnamed : (g : Gfid) → IsNameless s.disk s.history.tree g → (links_to g (slot_at t.disk at name) ≡ false) × (is_copy g (slot_at t.disk at name).standby ≡ false)
+    unnamed g k = elim (gfid_cases g q.file) [
+      | inl e ↦ absurd (may.also.1 (file_is_used s.disk s.history.tree q.file (subst (IsFileUsed s.disk s.history.tree) e k.used)))
+      | inr ne ↦ (
+        links_other s.disk t.disk s.history.tree at name q.file (most_hops s.history) s.claims makes is_new sound.kept.things g ne ∙ k.links at name p.there,
+        same_copies s.disk t.disk s.history.tree at name q.file (most_hops s.history) s.claims makes is_new sound.kept.things g at name ∙ k.copies at name p.there,
+      )
+    ]
+
     one_slot : OneSlot s (name_places (Create q.dir q.name q.file)) name (Some q.file) t.disk (applied (AddFile q.dir q.name q.file) s.history.tree)
     one_slot = record {
       brick = at;
@@ -322,25 +347,58 @@ module _ (s t : Scene) (a : Ask) (r : Reply) (m : Guarantee s a r t) (sound : So
       dirs = λ g. refl;
       bytes = bytes_stay;
       recorded = recorded;
+      unnamed = unnamed;
     }
 
     touches : Touches s t.disk t.history.tree
     touches = subst (Touches s t.disk) (sym made_tree) (one_slot_touches s (name_places (Create q.dir q.name q.file)) name (Some q.file) t.disk (applied (AddFile q.dir q.name q.file) s.history.tree) one_slot)
 
     made_transition : Transition s.who.0 s.disk s.history s.claims t.disk t.history t.claims
-    made_transition = record {
-      count = m.disk.count;
-      kept = made_invariant;
-      early = made_early;
-      later = m.later;
-      pending = others_wait;
-      claims = λ w ne. ap (λ (x : ℕ → Claim). x w) m.claims;
-      elsewhere = elsewhere;
-      others = λ w r ne. others_of s w r ne sound.kept.some_brick sound.kept.things.locks t.disk t.history t.claims touches m.run m.weights m.later m.past;
-    }
+    made_transition = changed_transition made_invariant made_early touches
+
+  -- ---- a request that takes something away
+
+  module _ (q : RemovalLeaves s t) where
+    -- a call that has done nothing now had done nothing
+    deeds_before : (o : Option TreeStep) → t.mine.deeds ≡ deeds_by s t.history.size o → t.mine.deeds ≡ None → s.mine.deeds ≡ None
+    deeds_before None e none = sym e ∙ none
+    deeds_before (Some x) e none = absurd (let z : None ≡ Some (deeds_after s.history.tree t.history.size s.mine.call s.mine.deeds x) = sym none ∙ e in cc)
+
+    left_unused : NothingUsed t.disk t.history
+    left_unused c r g l e none own u =
+        let was_own : IsOwn s.history.run c r.number g = subst (λ (i : ℕ). IsOwn i c r.number g) m.run own in
+        elim (nat_cases c.0 s.who.0) [
+          | inl z ↦ (let same = mine_is s t c.0 r h e z in
+              let number : r.number ≡ s.mine.number = ap (λ (x : PendingCall). x.number) same ∙ m.mine.number in
+              sound.kept.fresh c s.mine g (subst (λ (x : CallNo). x.0 < 2 ^ 64) number l) (ap s.history.pending z ∙ sound.runs)
+              (deeds_before (step_of a.request m.real) m.mine.deeds_are (ap (λ (x : PendingCall). x.deeds) (sym same) ∙ none))
+              (subst (λ (x : CallNo). IsOwn s.history.run c x g) number was_own) (q.used g u))
+          | inr ne ↦ sound.kept.fresh c r g l (other_is s t c.0 r h e ne) none was_own (q.used g u)
+        ]
+
+    left_invariant : Invariant t.disk t.history t.claims
+    left_invariant =
+        let count = m.disk.count in
+        let some = sound.kept.some_brick in
+        let few = sound.kept.few in
+        let calls = h.calls in
+        record {
+          things = q.things;
+          heavy = subst (λ ws. Any (λ w. 0 < w) ws) (sym m.weights) sound.kept.heavy;
+          some_brick = omega arith;
+          counted = count ∙ sound.kept.counted ∙ ap length (sym m.weights);
+          few = omega arith;
+          point = h.point;
+          known = λ g c k l u own. (let z = sound.kept.known g c k l (q.used g u) (subst (λ (i : ℕ). IsOwn i c k g) m.run own) in omega arith);
+          fresh = left_unused;
+        }
+
+    left_transition : Transition s.who.0 s.disk s.history s.claims t.disk t.history t.claims
+    left_transition = changed_transition left_invariant q.early q.touches
 
 pub request_transition : (s t : Scene) (a : Ask) (r : Reply) → Guarantee s a r t → Sound s → Permitted s a → OnlyMine s t → Transition s.who.0 s.disk s.history s.claims t.disk t.history t.claims
 request_transition s t a r m sound p h = elim (effect _ s a.brick.0 a.request (s.disk.brick a.brick.0) m.real m.new p.may m.served) [
-  | inl q ↦ quiet_transition s t a r m sound p h q
-  | inr q ↦ made_transition s t a r m sound p h q
+  | IsQuiet q ↦ quiet_transition s t a r m sound p h q
+  | IsCreate q ↦ made_transition s t a r m sound p h q
+  | Removes q ↦ left_transition s t a r m sound p h (removals_keep s t a r q p m sound)
 ]

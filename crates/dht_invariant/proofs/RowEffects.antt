@@ -1,5 +1,5 @@
--- What a permitted request that was served did to its brick: nothing but with locks, or it made a file.
-use Rattle.std.proofs.Common.{◌≡◌, ℕ, Bool, true, false, List, refl, sym, ap, inl, inr, ◌⊎◌}
+-- What a permitted request that was served did to its brick: nothing but with locks; it made a file; or it is one that takes something away.
+use Rattle.std.proofs.Common.{◌≡◌, ℕ, Bool, true, false, List, refl, sym, ap}
 use Rattle.std.specs.Prelude.{Option, Some, None, is_some, is_none, ◌&&◌}
 use Rattle.dht_types.specs.declared.identifiers.Gfid.{Gfid}
 use Rattle.dht_types.specs.declared.identifiers.ClientNo.{ClientNo}
@@ -13,16 +13,18 @@ use Rattle.dht_brick.specs.Bricks.{ServesOrFails}
 use Rattle.dht_brick.specs.Outcome.{Outcome, Do, Refuse, Await, in_dir, within, left_by}
 use Rattle.dht_brick.specs.Parts.{is_bare}
 use Rattle.dht_brick.specs.Rows.{row, after, with_store, with_locks}
+use Rattle.dht_brick.specs.declared.requests.FileRequest.TheVariants.{Drop}
 use Rattle.dht_brick.specs.declared.requests.NameRequest.{NameRequest}
-use Rattle.dht_brick.specs.declared.requests.NameRequest.TheVariants.{Look, Dirinfo, Create}
+use Rattle.dht_brick.specs.declared.requests.NameRequest.TheVariants.{Look, Dirinfo, Create, Unlink}
 use Rattle.dht_brick.specs.declared.requests.Request.{Request}
-use Rattle.dht_brick.specs.declared.requests.Request.TheVariants.{Lock, Unlock, OnNames, OnFile}
+use Rattle.dht_brick.specs.declared.requests.Request.TheVariants.{Lock, Unlock, Seal, OnNames, OnFile}
 use Rattle.dht_brick.specs.declared.replies.Given.{Given}
 use Rattle.dht_brick.specs.declared.replies.Reply.{Reply}
 use Rattle.dht_brick.specs.declared.replies.Reply.TheVariants.{Ok as Carried, Refused as Declined, Wait, Down, Failed, NoMemory}
 use Rattle.dht_section.specs.Moves.{step_of}
 use Rattle.dht_section.specs.Permits.{May}
 use Rattle.dht_section.specs.Scene.{Scene}
+use Rattle.dht_invariant.specs.Laws.{IsRemoval}
 use Rattle.dht_invariant.proofs.ContentsLaws.{added, new_slot}
 use Rattle.dht_invariant.proofs.ServedLaws.{within_keeps, served_keeps}
 
@@ -32,18 +34,18 @@ IsQuietName (Look d n) = Unit {0}
 IsQuietName (Dirinfo d) = Unit {0}
 IsQuietName q = ⊥
 
-abbrev IsQuiet : Request → Type 0
-IsQuiet (Lock key mode) = Unit {0}
-IsQuiet (Unlock key) = Unit {0}
-IsQuiet (OnNames q) = IsQuietName q
-IsQuiet q = ⊥
+abbrev IsQuietRequest : Request → Type 0
+IsQuietRequest (Lock key mode) = Unit {0}
+IsQuietRequest (Unlock key) = Unit {0}
+IsQuietRequest (OnNames q) = IsQuietName q
+IsQuietRequest q = ⊥
 
 -- what only shows something of a directory leaves the store
 shown_keeps : (o : Option DirRecord) (given : DirRecord → Given) (c : Contents) → (left_by (within (with_store c) (in_dir o (λ r. Do (given r) c.store))) c).store ≡ c.store
 shown_keeps None given c = refl
 shown_keeps (Some r) given c = refl
 
-after_store : (bricks : List (List ℕ)) (client : ClientNo) (call : CallNo) (q : Request) (c : Contents) → IsQuiet q → (after bricks client call q c).store ≡ c.store
+after_store : (bricks : List (List ℕ)) (client : ClientNo) (call : CallNo) (q : Request) (c : Contents) → IsQuietRequest q → (after bricks client call q c).store ≡ c.store
 after_store bricks client call (Lock key mode) c h = within_keeps (λ (x : Contents). x.store) (with_locks c) (lock_row client key mode c.locks) c (λ l. refl)
 after_store bricks client call (Unlock key) c h = refl
 after_store bricks client call (OnNames (Look d n)) c h = shown_keeps (dir c.store d) _ c
@@ -51,7 +53,7 @@ after_store bricks client call (OnNames (Dirinfo d)) c h = shown_keeps (dir c.st
 after_store bricks client call q c h = absurd h
 
 -- and does no step
-no_step : (q : Request) (r : Reply) → IsQuiet q → step_of q r ≡ None
+no_step : (q : Request) (r : Reply) → IsQuietRequest q → step_of q r ≡ None
 no_step (Lock key mode) (Carried given) h = refl
 no_step (Unlock key) (Carried given) h = refl
 no_step (OnNames (Look d n)) (Carried given) h = refl
@@ -81,13 +83,13 @@ pub record Adds (q : Request) (r : Reply) (c new : Contents) : Type 0 where
   pub locks : new.locks ≡ c.locks
 
 -- a request that changes no name leaves who has a file open
-after_opens : (bricks : List (List ℕ)) (client : ClientNo) (call : CallNo) (q : Request) (c : Contents) → IsQuiet q → (after bricks client call q c).opens ≡ c.opens
+after_opens : (bricks : List (List ℕ)) (client : ClientNo) (call : CallNo) (q : Request) (c : Contents) → IsQuietRequest q → (after bricks client call q c).opens ≡ c.opens
 after_opens bricks client call (Lock key mode) c h = within_keeps (λ (x : Contents). x.opens) (with_locks c) (lock_row client key mode c.locks) c (λ l. refl)
 after_opens bricks client call (Unlock key) c h = refl
 after_opens bricks client call (OnNames q) c h = within_keeps (λ (x : Contents). x.opens) (with_store c) (name_row bricks q c.store) c (λ a. refl)
 after_opens bricks client call q c h = absurd h
 
-effect_quiet : (bricks : List (List ℕ)) (s : Scene) (q : Request) (c : Contents) (r : Reply) (new : Contents) → IsQuiet q → ServesOrFails (row bricks s.who s.mine.number q c) c r new → Quiet q r c new
+effect_quiet : (bricks : List (List ℕ)) (s : Scene) (q : Request) (c : Contents) (r : Reply) (new : Contents) → IsQuietRequest q → ServesOrFails (row bricks s.who s.mine.number q c) c r new → Quiet q r c new
 effect_quiet bricks s q c r new h v = record {
   step = no_step q r h;
   store = served_keeps (λ (x : Contents). x.store) (row bricks s.who s.mine.number q c) c r new (after_store bricks s.who s.mine.number q c h) v;
@@ -122,21 +124,29 @@ created_by d n f c given new (Some x) true e v = record {
 unchanged : (q : Request) (r : Reply) (c new : Contents) → step_of q r ≡ None → new ≡ c → Quiet q r c new
 unchanged q r c new step e = record { step = step; store = ap (λ (x : Contents). x.store) e; opens = ap (λ (x : Contents). x.opens) e }
 
-effect_create : (d : Gfid) (n : List ℕ) (f : Gfid) (c : Contents) (r : Reply) (new : Contents) (o : Option DirRecord) (b : Bool) → dir c.store d ≡ o → ServesOrFails (created d n f c o b) c r new → Quiet (OnNames (Create d n f)) r c new ⊎ Adds (OnNames (Create d n f)) r c new
-effect_create d n f c (Carried given) new o b e v = inr (created_by d n f c given new o b e v)
-effect_create d n f c (Declined why) new o b e v = inl (unchanged _ _ c new refl v.1)
-effect_create d n f c (Wait holder) new o b e v = inl (unchanged _ _ c new refl v.1)
-effect_create d n f c Down new o b e v = inl (unchanged _ _ c new refl v)
-effect_create d n f c Failed new o b e v = inl (unchanged _ _ c new refl v)
-effect_create d n f c NoMemory new o b e v = inl (unchanged _ _ c new refl v)
+-- what a request that was permitted and served did: nothing but with locks; it made a file; or it is one that takes something away
+pub data Effect (q : Request) (r : Reply) (c new : Contents) : Type 0 where
+  IsQuiet : Quiet q r c new → Effect q r c new
+  IsCreate : Adds q r c new → Effect q r c new
+  Removes : IsRemoval q → Effect q r c new
 
--- a request that was permitted and served did nothing but with locks, or made a file
-pub effect : (bricks : List (List ℕ)) (s : Scene) (b : ℕ) (q : Request) (c : Contents) (r : Reply) (new : Contents) → May s b q → ServesOrFails (row bricks s.who s.mine.number q c) c r new → Quiet q r c new ⊎ Adds q r c new
-effect bricks s b (Lock key mode) c r new may v = inl (effect_quiet bricks s (Lock key mode) c r new tt v)
-effect bricks s b (Unlock key) c r new may v = inl (effect_quiet bricks s (Unlock key) c r new tt v)
-effect bricks s b (OnNames (Look d n)) c r new may v = inl (effect_quiet bricks s (OnNames (Look d n)) c r new tt v)
-effect bricks s b (OnNames (Dirinfo d)) c r new may v = inl (effect_quiet bricks s (OnNames (Dirinfo d)) c r new tt v)
+effect_create : (d : Gfid) (n : List ℕ) (f : Gfid) (c : Contents) (r : Reply) (new : Contents) (o : Option DirRecord) (b : Bool) → dir c.store d ≡ o → ServesOrFails (created d n f c o b) c r new → Effect (OnNames (Create d n f)) r c new
+effect_create d n f c (Carried given) new o b e v = IsCreate (created_by d n f c given new o b e v)
+effect_create d n f c (Declined why) new o b e v = IsQuiet (unchanged _ _ c new refl v.1)
+effect_create d n f c (Wait holder) new o b e v = IsQuiet (unchanged _ _ c new refl v.1)
+effect_create d n f c Down new o b e v = IsQuiet (unchanged _ _ c new refl v)
+effect_create d n f c Failed new o b e v = IsQuiet (unchanged _ _ c new refl v)
+effect_create d n f c NoMemory new o b e v = IsQuiet (unchanged _ _ c new refl v)
+
+pub effect : (bricks : List (List ℕ)) (s : Scene) (b : ℕ) (q : Request) (c : Contents) (r : Reply) (new : Contents) → May s b q → ServesOrFails (row bricks s.who s.mine.number q c) c r new → Effect q r c new
+effect bricks s b (Lock key mode) c r new may v = IsQuiet (effect_quiet bricks s (Lock key mode) c r new tt v)
+effect bricks s b (Unlock key) c r new may v = IsQuiet (effect_quiet bricks s (Unlock key) c r new tt v)
+effect bricks s b (OnNames (Look d n)) c r new may v = IsQuiet (effect_quiet bricks s (OnNames (Look d n)) c r new tt v)
+effect bricks s b (OnNames (Dirinfo d)) c r new may v = IsQuiet (effect_quiet bricks s (OnNames (Dirinfo d)) c r new tt v)
 effect bricks s b (OnNames (Create d n f)) c r new may v = effect_create d n f c r new (dir c.store d) (is_bare (slot c.store (d, n)) && is_none (file c.store f)) refl v
+effect bricks s b (OnNames (Unlink d n f)) c r new may v = Removes tt
 effect bricks s b (OnNames q) c r new may v = absurd may.0
+effect bricks s b (OnFile (Drop f)) c r new may v = Removes tt
 effect bricks s b (OnFile q) c r new may v = absurd may.0
+effect bricks s b (Seal f) c r new may v = Removes tt
 effect bricks s b q c r new may v = absurd may

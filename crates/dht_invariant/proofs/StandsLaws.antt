@@ -15,16 +15,17 @@ use Rattle.dht_types.specs.declared.stored.StandbyRecord.{StandbyRecord}
 use Rattle.dht_types.specs.declared.stored.Slot.{Slot}
 use Rattle.dht_types.specs.declared.stored.Record.{Record}
 use Rattle.dht_types.specs.declared.stored.Record.TheVariants as stored
-use Rattle.dht_brick.specs.Parts.{is_file, is_copy, is_standlink, is_live}
+use Rattle.dht_brick.specs.Parts.{is_file, is_copy, is_standlink}
 use Rattle.dht_section.specs.Claims.{Claim}
 use Rattle.dht_section.specs.Disk.{Disk, file_in, slot_at, file_at}
 use Rattle.dht_section.specs.Truth.{AllShow, TruthIs, Meaning, AFile, ADirectory, main_shows, standby_shows, meaning_of, NameTruth, main_bytes, standby_bytes, FileTruth, IsInUse, ByName, ByOpen, ByBytes, Stands, Placed}
-use Rattle.dht_section.specs.Early.{Early, IsUnmoved}
+use Rattle.dht_section.specs.Early.{Early}
 use Rattle.dht_section.specs.Files.{RecordsAs, HasName}
 use Rattle.dht_section.specs.Invariant.{Invariant}
 use Rattle.dht_section.specs.Names.{NameInvariant}
-use Rattle.dht_section.specs.Shapes.{NameShape, Bare, Folder, Plain, Marked, Contested, Standing, Copied, Committed, NameFits, FileShape, Gone, Live, Moving, Copying, Moved, FileFits, here, when_on, either, main_at, standby_at, core_at, node_of, body, record_at, main_brick, bytes_shown}
+use Rattle.dht_section.specs.Shapes.{NameShape, Bare, Folder, Plain, Marked, Contested, Standing, Copied, Committed, NameFits, FileShape, Gone, Live, Moving, Copying, Moved, FileFits, here, when_on, either, main_at, standby_at, core_at, node_of, body, record_at, bytes_shown}
 use Rattle.dht_section.specs.Views.{visible, cores_of, links_to, view_of}
+use Rattle.dht_section.proofs.FileLaws.{main_record, live_by}
 use Rattle.dht_invariant.proofs.Basics.{nat_cases, none_some, some_same, here_at, here_off}
 use Rattle.dht_invariant.proofs.EarlyLaws.{stands_plainly}
 use Rattle.dht_invariant.proofs.Frames.{links_core}
@@ -208,20 +209,6 @@ stands_of d s p k now = record {
 }
 
 -- ---- each file of the tree stands once, on its holder
-
--- the brick that has the file has a record of its bytes
-main_record : (count : ℕ) (records : ℕ → Option Record) (h : FileShape) (b : ℕ) → RecordsAs count records h → main_brick h ≡ Some b → b < count → is_some (body (records b)) ≡ true
-main_record count records Gone b r e l = absurd (let z : None ≡ Some b = e in cc)
-main_record count records (Live i hop bytes) b r e l = ap is_some (r.has b l ∙ (ap (λ (j : ℕ). here (Some (stored.Live hop bytes)) j b) (let z : i ≡ b = cc in z) ∙ here_at (Some (stored.Live hop bytes)) b))
-main_record count records (Moving i hop t bytes) b r e l = ap is_some (r.has b l ∙ (ap (λ (j : ℕ). here (Some (stored.Moving hop t bytes)) j b) (let z : i ≡ b = cc in z) ∙ here_at (Some (stored.Moving hop t bytes)) b))
-main_record count records (Copying i hop t bytes c) b r e l = ap is_some (r.has b l) ∙ (ap (λ (j : ℕ). is_some (either (here (Some (stored.Moving hop t bytes)) j b) (here (Some (stored.Standby c)) t.0 b))) (let z : i ≡ b = cc in z)
-    ∙ ap (λ (o : Option Record). is_some (either o (here (Some (stored.Standby c)) t.0 b))) (here_at (Some (stored.Moving hop t bytes)) b))
-main_record count records (Moved t c) b r e l = absurd (let z : None ≡ Some b = e in cc)
-
--- a record of a file that was never moved is a live one
-live_by : (r : Option Record) → is_some (body r) ≡ true → ((x : Record) → r ≡ Some x → IsUnmoved x) → is_live r ≡ true
-live_by None h u = absurd (let z : false ≡ true = h in cc)
-live_by (Some x) h u = ap (λ (y : Record). is_live (Some y)) (u x refl).1
 
 pub placed_of : (d : Disk) (s : History) (p : ℕ → Claim) (x : Entry) (f : Gfid) → Invariant d s p → Early d s → s.tree.names x ≡ Some (IsFile f) → Placed d x
 placed_of d s p x f k now told = elim (stands_plainly d x (s.tree.names x) (k.things.names x) (now.plain x)) [

@@ -1,21 +1,23 @@
 -- What a request touches that changes one guarded slot, and at most one file whose names are all guarded.
-use Rattle.std.proofs.Common.{◌≡◌, ◌≢◌, ◌<◌, ℕ, true, refl, sym, ap, ◌∙◌, subst, inl, inr, ◌⊎◌}
+use Rattle.std.proofs.Common.{◌≡◌, ◌≢◌, ◌<◌, ℕ, true, false, refl, sym, ap, ◌∙◌, subst, inl, inr, ◌⊎◌}
 use Rattle.std.specs.Prelude.{Option, Some, None, is_some}
 use Rattle.dht_types.specs.Gfid.{Entry, anchor}
 use Rattle.dht_types.specs.Tree.{Tree}
 use Rattle.dht_types.specs.declared.identifiers.Gfid.{Gfid}
-use Rattle.dht_brick.specs.Contents.{Opens, Locks}
+use Rattle.dht_brick.specs.Contents.{Contents, Opens, Locks, slot}
 use Rattle.dht_brick.specs.Locality.{Places}
 use Rattle.dht_brick.specs.OpenRows.{is_sealed}
+use Rattle.dht_brick.specs.Parts.{is_copy}
+use Rattle.dht_types.specs.declared.stored.Slot.{Slot}
 use Rattle.dht_section.specs.Disk.{Disk, slot_at, file_at, dir_at}
 use Rattle.dht_section.specs.Names.{StandsAs}
-use Rattle.dht_section.specs.Rely.{IsFileUsed, ByBytes, ByRecord, BySeal, outline}
+use Rattle.dht_section.specs.Rely.{IsFileUsed, IsNameless, ByBytes, ByRecord, BySeal, outline}
 use Rattle.dht_section.specs.Scene.{Scene, Guards, NameStands}
 use Rattle.dht_section.specs.Shapes.{NameShape, NameFits}
-use Rattle.dht_section.specs.Views.{core, cores_of, view_of}
+use Rattle.dht_section.specs.Views.{core, cores_of, links_to, view_of}
 use Rattle.dht_invariant.specs.Makes.{Framed}
 use Rattle.dht_invariant.specs.Touches.{Touches, OwnsFile, Same}
-use Rattle.dht_invariant.proofs.Basics.{entry_cases, gfid_cases, is_there, other_some}
+use Rattle.dht_invariant.proofs.Basics.{nat_cases, entry_cases, gfid_cases, is_there, other_some}
 use Rattle.dht_invariant.proofs.GrowsLaws.{grows_refl}
 
 -- one slot that is guarded changed, and the record of one file whose names are all guarded
@@ -32,6 +34,8 @@ pub record OneSlot (o : Scene) (p : Places) (x : Entry) (f : Option Gfid) (e : D
   pub dirs : (g : Gfid) → u.dirs g ≡ o.history.tree.dirs g
   pub bytes : (g : Gfid) → o.history.tree.bytes g ≢ None → u.bytes g ≢ None
   pub recorded : (i : ℕ) (g : Gfid) → is_some (file_at o.disk i g) ≡ true → is_some (file_at e i g) ≡ true
+  -- the slot becomes no name and no copy of a file that has none
+  pub unnamed : (g : Gfid) → IsNameless o.disk o.history.tree g → (links_to g (slot_at e brick x) ≡ false) × (is_copy g (slot_at e brick x).standby ≡ false)
 
 module _ (o : Scene) (p : Places) (x : Entry) (f : Option Gfid) (e : Disk) (u : Tree) (m : OneSlot o p x f e u) where
   slot_other : (i : ℕ) (y : Entry) → y ≢ x → slot_at e i y ≡ slot_at o.disk i y
@@ -64,6 +68,25 @@ module _ (o : Scene) (p : Places) (x : Entry) (f : Option Gfid) (e : Disk) (u : 
       ByRecord b q.0 (subst (λ (c : ℕ). b < c) (sym m.framed.count) l) q.1
   file_used g (BySeal h) = BySeal (sealed_same g ∙ h)
 
+  -- a fact of slots that held of each one holds, where it does of the one that changed
+  slots_all : (P : Slot → Type 0) → P (slot_at e m.brick x) → ((i : ℕ) (y : Entry) → i < o.disk.count → P (slot_at o.disk i y)) → (i : ℕ) (y : Entry) → i < e.count → P (slot_at e i y)
+  slots_all P now was i y l =
+      let before : P (slot_at o.disk i y) = was i y (subst (λ (c : ℕ). i < c) m.framed.count l) in
+      elim (entry_cases y x) [
+        | inl q ↦ elim (nat_cases i m.brick) [
+          | inl z ↦ subst (λ (j : ℕ). P (slot_at e j y)) (sym z) (subst (λ (w : Entry). P (slot_at e m.brick w)) (sym q) now)
+          | inr ne ↦ subst (λ (c : Contents). P (slot c.store y)) (sym (m.framed.off i ne)) before
+        ]
+        | inr ne ↦ subst P (sym (slot_other i y ne)) before
+      ]
+
+  nameless_stays : (g : Gfid) → IsNameless o.disk o.history.tree g → IsNameless e u g
+  nameless_stays g h = record {
+    used = file_used g h.used;
+    links = slots_all (λ p. links_to g p ≡ false) (m.unnamed g h).0 h.links;
+    copies = slots_all (λ p. is_copy g p.standby ≡ false) (m.unnamed g h).1 h.copies;
+  }
+
   pub one_slot_touches : Touches o e u
   one_slot_touches = record {
     count = m.framed.count;
@@ -81,4 +104,5 @@ module _ (o : Scene) (p : Places) (x : Entry) (f : Option Gfid) (e : Disk) (u : 
     known = λ g h. inr (m.dirs g ∙ h);
     used = file_used;
     sealed = λ g h. sealed_same g ∙ h;
+    nameless = nameless_stays;
   }

@@ -17,14 +17,15 @@ use Rattle.dht_brick.specs.Outcome.{Do}
 use Rattle.dht_brick.specs.Rows.{row}
 use Rattle.dht_brick.specs.declared.replies.Given.{Given}
 use Rattle.dht_brick.specs.declared.replies.Reply.{Reply}
+use Rattle.dht_brick.specs.declared.requests.FileRequest.TheVariants.{Drop}
 use Rattle.dht_brick.specs.declared.requests.NameRequest.{NameRequest}
-use Rattle.dht_brick.specs.declared.requests.NameRequest.TheVariants.{MakeLinkto, DropLinkto}
+use Rattle.dht_brick.specs.declared.requests.NameRequest.TheVariants.{MakeLinkto, DropLinkto, Unlink}
 use Rattle.dht_brick.specs.declared.requests.Request.{Request}
-use Rattle.dht_brick.specs.declared.requests.Request.TheVariants.{OnNames}
+use Rattle.dht_brick.specs.declared.requests.Request.TheVariants.{Seal, OnNames, OnFile}
 use Rattle.dht_section.specs.Claims.{Claim, MayClaim, no_claim}
 use Rattle.dht_section.specs.Disk.{Disk, holders}
 use Rattle.dht_section.specs.Early.{Early}
-use Rattle.dht_section.specs.Invariant.{Invariant, Things, most_hops}
+use Rattle.dht_section.specs.Invariant.{Invariant, Things, Used, most_hops}
 use Rattle.dht_section.specs.Moves.{Guarantee, request_step, tree_by}
 use Rattle.dht_section.specs.Permits.{Permitted, MayName}
 use Rattle.dht_section.specs.Scene.{Scene, Sound, NameStands}
@@ -103,6 +104,25 @@ LinktosKeep =
     → IsOfLinkto q → b.0 < s.disk.count → MayName s b.0 q
     → Guarantee s (record { brick = b; request = OnNames q }) r t → Sound s
     → LinktoLeaves s t
+
+-- a request that takes a file's name away, seals a file, or drops its record
+abbrev pub IsRemoval : Request → Type 0
+IsRemoval (OnNames (Unlink d n f)) = Unit {0}
+IsRemoval (OnFile (Drop f)) = Unit {0}
+IsRemoval (Seal f) = Unit {0}
+IsRemoval q = ⊥
+
+-- such a request, however it was answered: what holds is kept, and no gfid comes into use
+pub record RemovalLeaves (s t : Scene) : Type 0 where
+  pub things : Things t.disk t.history.tree (most_hops t.history) t.claims
+  pub early : Early t.disk t.history
+  pub used : (g : Gfid) → Used t.disk t.history.tree g → Used s.disk s.history.tree g
+  pub touches : Touches s t.disk t.history.tree
+
+abbrev pub RemovalsKeep : Type 0
+RemovalsKeep =
+    (s t : Scene) (a : Ask) (r : Reply)
+    → IsRemoval a.request → Permitted s a → Guarantee s a r t → Sound s → RemovalLeaves s t
 
 -- nobody claims anything
 abbrev pub no_claims : ℕ → Claim

@@ -8,7 +8,7 @@ use Rattle.dht_types.specs.declared.locks.Key.{Key}
 use Rattle.dht_types.specs.declared.stored.DirRecord.{DirRecord}
 use Rattle.dht_section.specs.Disk.{Disk, slot_at, file_at, dir_at, holders}
 use Rattle.dht_section.specs.Names.{StandsAs}
-use Rattle.dht_section.specs.Rely.{AllPlanned, CopyStays, IsFileUsed, outline}
+use Rattle.dht_section.specs.Rely.{AllPlanned, CopyStays, IsFileUsed, IsNameless, outline}
 use Rattle.dht_section.specs.Scene.{Scene, HoldsAlone, Guards, NameStands}
 use Rattle.dht_section.specs.Shapes.{NameShape, Grows}
 use Rattle.dht_section.specs.Views.{core, cores_of, links_to, view_of}
@@ -42,3 +42,4 @@ pub record Touches (o : Scene) (e : Disk) (u : Tree) : Type 0 where
   pub known : (g : Gfid) → o.history.tree.dirs g ≡ true → HoldsAlone o g ⊎ (u.dirs g ≡ true)
   pub used : (f : Gfid) → IsFileUsed o.disk o.history.tree f → IsFileUsed e u f
   pub sealed : (f : Gfid) → (view_of o.disk f).sealed ≡ true → (view_of e f).sealed ≡ true
+  pub nameless : (f : Gfid) → IsNameless o.disk o.history.tree f → IsNameless e u f

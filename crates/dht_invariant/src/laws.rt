@@ -1,6 +1,6 @@
 //! Laws of the invariant. They do nothing.
 
-ghost use Rattle.dht_invariant.specs.Laws.{CreateKeeps, TransitionLaws, LinktosKeep};
+ghost use Rattle.dht_invariant.specs.Laws.{CreateKeeps, TransitionLaws, LinktosKeep, RemovalsKeep};
 ghost use Rattle.dht_invariant.specs.Laws.{RowsAreLocal, RequestsAreLocal};
 ghost use Rattle.dht_invariant.specs.Laws.{ClausesAreLocal, RequestsLeaveOthers, AnswersLeaveOthers};
 ghost use Rattle.dht_invariant.specs.Laws.{NewBricksMeet, BricksStand, NamesArePlaced};
@@ -20,6 +20,12 @@ pub fn the_transitions()
 /// guarded name.
 pub fn a_linkto_keeps_each_thing()
     ensures { LinktosKeep }
+{}
+
+/// An unlink, a seal or a drop that is permitted, carried out or not, keeps the invariant of each
+/// thing, and touches nothing but its guarded name, its nameless file or the file's seal.
+pub fn a_removal_keeps_each_thing()
+    ensures { RemovalsKeep }
 {}
 
 /// A request that a brick carries out changes at most one slot, one directory record, one file

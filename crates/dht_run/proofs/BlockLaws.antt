@@ -1,14 +1,18 @@
 -- What the lines of one event change: how many requests there were, and that no client from 64 on calls.
-use Rattle.std.proofs.Common.{◌≡◌, ◌≢◌, ◌+◌, ◌≤◌, ◌<◌, ℕ, List, [], ◌∷◌, ◌++◌, Bool, true, false, refl, sym, ap, ◌∙◌, subst, inl, inr, ◌⊎◌, arith}
+use Rattle.std.proofs.Common.{◌≡◌, ◌+◌, ◌≤◌, ◌<◌, ℕ, List, [], ◌∷◌, ◌++◌, Bool, true, false, refl, sym, ◌∙◌, subst, inl, inr, ◌⊎◌, arith, length}
 use Rattle.std.specs.Prelude.{Option, Some, None, nat_eq, nat_lt, MatchOption, if◌then◌else◌}
 use Rattle.std.proofs.lemmas.Bool.{cases_lt, ltb-true}
 use Rattle.dht_types.specs.Put.{put}
 use Rattle.dht_types.proofs.PutLaws.{put_elim, exact_nat}
 use Rattle.dht_types.proofs.HistoryLaws.{lines_append}
 use Rattle.dht_types.specs.History.{History, PendingCall, Owed, start, history_of, with_line, with_lines, with_step, accepted, did, stepped}
+use Rattle.dht_types.specs.declared.errors.Errno.{Errno}
 use Rattle.dht_types.specs.declared.identifiers.CallNo.{CallNo}
 use Rattle.dht_types.specs.declared.identifiers.ClientNo.{ClientNo}
 use Rattle.dht_types.specs.declared.identifiers.BrickNo.{BrickNo}
+use Rattle.dht_types.specs.declared.identifiers.Gfid.{Gfid}
+use Rattle.dht_types.specs.Calls.{named_call, refusal_at_start}
+use Rattle.dht_types.specs.declared.calls.Answer.{Answer}
 use Rattle.dht_types.specs.declared.calls.Call.{Call}
 use Rattle.dht_types.specs.declared.calls.TreeStep.{TreeStep}
 use Rattle.dht_types.specs.declared.lines.RequestKind.{RequestKind}
@@ -19,7 +23,7 @@ use Rattle.dht_types.specs.declared.lines.Cause.{Cause}
 use Rattle.dht_types.specs.declared.lines.Cause.TheVariants.{Unknown, Dead}
 use Rattle.dht_types.specs.declared.lines.Line.{Line}
 use Rattle.dht_types.specs.declared.lines.Line.TheVariants.{Volume, Called, Stepped, Waited, Tree, Answered, WentDown, CameUp, Died, Refused}
-use Rattle.dht_world.specs.Following.{IsEnd, IsUnderStep, IsUnder, Head, Accepted, IsStep, IsWait, Block, ComesFrom, IsSpent, step_limit, cause_of, client_cause, call_cause}
+use Rattle.dht_world.specs.Following.{IsEnd, IsUnderStep, IsUnderCall, IsUnder, Head, Accepted, IsStep, IsWait, Block, ComesFrom, IsSpent, step_limit, cause_of, client_cause, call_cause}
 
 -- no client from 64 on has a pending call
 abbrev pub OthersIdle : History → Type 0
@@ -88,18 +92,27 @@ under_quiet s k c (Refused n cause ∷ xs) h = absurd h
 no_more : (s : History) (lines : List Line) → lines ≡ [] → Quiet s (with_lines s lines)
 no_more s lines e = subst (λ (xs : List Line). Quiet s (with_lines s xs)) (sym e) (still s)
 
--- what stands under a head line is quiet
-more_quiet : (s : History) (line : Line) (lines : List Line) → IsUnder line lines → Quiet s (with_lines s lines)
-more_quiet s (Volume w) lines h = no_more s lines h
-more_quiet s (Called k c call) lines h = end_quiet s k c lines h
-more_quiet s (Stepped k c b q r) lines h = under_quiet s k c lines h
-more_quiet s (Waited k c b d) lines h = end_quiet s k c lines h
-more_quiet s (WentDown b) lines h = no_more s lines h
-more_quiet s (CameUp b) lines h = no_more s lines h
-more_quiet s (Died c) lines h = no_more s lines h
-more_quiet s (Refused n cause) lines h = no_more s lines h
-more_quiet s (Tree k step) lines h = absurd h
-more_quiet s (Answered k c at a) lines h = absurd h
+-- the answer of a call at its call line
+answer_quiet : (s : History) (k : CallNo) (c : ClientNo) (at : Option ℕ) (a : Answer) (lines : List Line) → lines ≡ Answered k c at a ∷ [] → Quiet s (with_lines s lines)
+answer_quiet s k c at a lines e = subst (λ (xs : List Line). Quiet s (with_lines s xs)) (sym e) (end_quiet s k c (Answered k c at a ∷ []) (refl, refl))
+
+call_quiet : (s : History) (line : ℕ) (k : CallNo) (c : ClientNo) (o : Option Errno) (lines : List Line) → IsUnderCall line k c o lines → Quiet s (with_lines s lines)
+call_quiet s line k c (Some e) lines h = answer_quiet s k c _ _ lines h
+call_quiet s line k c None lines (inl h) = no_more s lines h
+call_quiet s line k c None lines (inr h) = answer_quiet s k c _ _ lines h
+
+-- what stands under a head line is quiet, which came after this history
+more_quiet : (past s : History) (line : Line) (lines : List Line) → IsUnder past line lines → Quiet s (with_lines s lines)
+more_quiet past s (Volume w) lines h = no_more s lines h
+more_quiet past s (Called k c call) lines h = call_quiet s (past.size + 1) k c (refusal_at_start (length past.weights) call) lines h
+more_quiet past s (Stepped k c b q r) lines h = under_quiet s k c lines h
+more_quiet past s (Waited k c b d) lines h = end_quiet s k c lines h
+more_quiet past s (WentDown b) lines h = no_more s lines h
+more_quiet past s (CameUp b) lines h = no_more s lines h
+more_quiet past s (Died c) lines h = no_more s lines h
+more_quiet past s (Refused n cause) lines h = no_more s lines h
+more_quiet past s (Tree k step) lines h = absurd h
+more_quiet past s (Answered k c at a) lines h = absurd h
 
 -- an event within the limit counts no request past it, and lets no client from 64 on call
 record Within (s t : History) (spent : Type 0) : Type 0 where
@@ -123,7 +136,7 @@ below_64 s c other e = by (nat_lt c 64) (ltb-true c 64) e
     by false l q = absurd (let z : Some Unknown ≡ None = q in cc)
 
 -- the head line of an event that is accepted
-call_within : (s : History) (c : ℕ) (call : Call) (k : CallNo) (spent : Type 0) → c < 64 → Within s (with_line s (Called k (record { 0 = c }) call)) spent
+call_within : (s : History) (c : ℕ) (call : Call Gfid) (k : CallNo) (spent : Type 0) → c < 64 → Within s (with_line s (Called k (record { 0 = c }) call)) spent
 call_within s c call k spent low = quiet_within s (with_line s (Called k (record { 0 = c }) call)) spent (record {
   requests = refl;
   idle = λ h. λ i l. put_elim (λ (x : Option PendingCall). x ≡ None) nat_eq exact_nat s.pending c (Some (accepted s.callers (s.size + 1) k call)) i (λ e. absurd (omega arith)) (λ ne. h i l);
@@ -156,7 +169,7 @@ step_within s c r line none (inr h) = from_line s line (Waited r.number (record 
 
 accepted_within : (s : History) (e : Event) (line : Line) → cause_of s e ≡ None → Accepted s e line → Within s (with_line s line) (IsSpent s e)
 accepted_within s (event.Volume w) line none h = from_line s line (Volume w) (IsSpent s (event.Volume w)) h (quiet_within s (with_line s (Volume w)) (IsSpent s (event.Volume w)) (record { requests = refl; idle = λ q. q }))
-accepted_within s (event.Call c call) line none h = from_line s line (Called (record { 0 = s.calls + 1 }) (record { 0 = c }) call) (IsSpent s (event.Call c call)) h (call_within s c call (record { 0 = s.calls + 1 }) (IsSpent s (event.Call c call)) (below_64 s c (call_cause (s.pending c)) none))
+accepted_within s (event.Call c call) line none h = from_line s line (Called (record { 0 = s.calls + 1 }) (record { 0 = c }) h.0) (IsSpent s (event.Call c call)) h.2 (call_within s c h.0 (record { 0 = s.calls + 1 }) (IsSpent s (event.Call c call)) (below_64 s c (call_cause (s.pending c) (named_call s.answered call)) none))
 accepted_within s (event.Step c) line none h = step_within s c h.0 line none h.2
 accepted_within s (event.Down b) line none h = from_line s line (WentDown (record { 0 = b })) (IsSpent s (event.Down b)) h (quiet_within s (with_line s (WentDown (record { 0 = b }))) (IsSpent s (event.Down b)) (record { requests = refl; idle = λ q. q }))
 accepted_within s (event.Up b) line none h = from_line s line (CameUp (record { 0 = b })) (IsSpent s (event.Up b)) h (quiet_within s (with_line s (CameUp (record { 0 = b }))) (IsSpent s (event.Up b)) (record { requests = refl; idle = λ q. q }))
@@ -173,7 +186,7 @@ head_within s n e line h = by (cause_of s e) refl h
 block_within : (s : History) (n : ℕ) (e : Event) (lines : List Line) → Block s n e lines → Within s (with_lines s lines) (IsSpent s e)
 block_within s n e lines h =
     let head = head_within s n e h.first h.is_head in
-    let more = more_quiet (with_line s h.first) h.first h.more h.is_under in
+    let more = more_quiet s (with_line s h.first) h.first h.more h.is_under in
     let same = more.requests in
     subst (λ (xs : List Line). Within s (with_lines s xs) (IsSpent s e)) (sym h.all) (record {
       requests = λ not l. (let k = head.requests not l in omega arith);

@@ -40,7 +40,8 @@ other_line cut line input (Some more) one h not eq = subst (λ (o : Option (List
 pub only_one : (o e : Event) → IsReadOf o (Ok e) → o ≡ e
 only_one (Volume w) e (inl q) = cc
 only_one (Volume w) e (inr q) = cc
-only_one (Call c call) e q = cc
+only_one (Call c call) e (inl q) = cc
+only_one (Call c call) e (inr q) = cc
 only_one (Step c) e q = cc
 only_one (Down b) e q = cc
 only_one (Up b) e q = cc

@@ -42,7 +42,7 @@ replays_of b c goes_on w count text rest events lines h = let fit = h.at.led.fit
   schedule = h.schedule;
   limit = h.limit;
   transcript = transcript_of b c goes_on w events lines h.at h.follows h.limited;
-  ready = subst (λ (ws : List ℕ). AreReady b.state ws (history_of lines).run (history_of lines).down w.bricks.items) (sym fit.same_weights) (subst (λ (run : ℕ). AreReady b.state w.weights run (history_of lines).down w.bricks.items) (sym fit.counts.run) h.at.ready);
+  ready = subst (λ (ws : List ℕ). AreReady b.state ws (history_of lines).run (history_of lines).down w.bricks.items) (sym fit.same_weights) (subst (λ (run : ℕ). AreReady b.state w.weights run (history_of lines).down w.bricks.items) (sym fit.summary.run) h.at.ready);
   prefix = h.prefix;
 }
 

@@ -12,14 +12,14 @@ use Rattle.dht_world.specs.declared.events.World.{World}
 use Rattle.dht_run.specs.LineReader.{Reader, input_of, HasNoNewline}
 use Rattle.dht_types.specs.Faults.{HasFault}
 use Rattle.dht_run.specs.Outside.{before_told, after_told, IsAtEnd}
-use Rattle.dht_run.specs.Replay.{IsMalformed, IsPastLimit, IsAfterFirst}
+use Rattle.dht_run.specs.Replay.{IsMalformed, IsAfterFirst}
 use Rattle.dht_run.specs.SoFar.{Carried, SoFar, Reached, ReachedBad, ReachedLimit, Stopped, EndsSo, Wrote, WroteInPart, Spends}
 use Rattle.dht_run.specs.declared.ending.Ending.{Ending}
 use Rattle.dht_run.specs.declared.ending.Ending.TheVariants.{Done, Usage, Malformed, SourceFailed, SinkFailed, OutOfMemory, Limit}
 use Rattle.dht_sched.specs.Schedule.{schedule_text, IsScheduled, IsOneLine}
 use Rattle.dht_run.specs.NextEvent.{CutsEvent, HasNoEvent}
 use Rattle.dht_run.specs.Replay.{schedule_of, MayCome}
-use Rattle.dht_run.specs.Written.{IsCause, IsEventCause}
+use Rattle.dht_run.specs.Written.{IsEventCause}
 use Rattle.dht_run.proofs.FinishLaws.{written_prefix, written_all}
 use Rattle.dht_run.proofs.ReplayLaws.{carried_more, cut_more, lines_text-append, malformed_after, misplaced}
 
@@ -125,8 +125,8 @@ none_came b c w count old new text bl al before taken SourceFailed bad failed nd
 -- an event did not happen
 carried_still : {B C : Type 0} (b : BrickGhosts B) (c : CallerGhosts C) (w v : World B C) (count : ℕ) (text rest : Option (List ℕ)) (events : List Event) (lines : List Line) → IsAt b c v lines → Carried b c w count text rest events lines → Carried b c v count text rest events lines
 carried_still b c w v count text rest events lines at h =
-    let was = h.at.led.fit.counts.lines in
-    let now = at.led.fit.counts.lines in
+    let was = h.at.led.fit.summary.lines in
+    let now = at.led.fit.summary.lines in
     let few = h.few in
     record {
       at = at;

@@ -19,7 +19,7 @@ use Rattle.dht_world.specs.Bricks.{disk_of, journals_of}
 use Rattle.dht_world.specs.Clients.{claims_of, ClientFits, Works}
 use Rattle.dht_world.specs.Following.{ComesFrom, Block, IsSpent, step_limit}
 use Rattle.dht_world.specs.World.{CanHappen}
-use Rattle.dht_world.specs.Places.{IsAt, Advances, counts_of}
+use Rattle.dht_world.specs.Places.{IsAt, Advances, summary_of}
 use Rattle.dht_world.specs.declared.places.Place.{Place}
 use Rattle.dht_world.specs.declared.places.Place.TheVariants.{Living, Dead}
 use Rattle.dht_world.proofs.ClientLaws.{holders_call}
@@ -75,8 +75,7 @@ lines_text-append xs ys = flat_more xs ys
 -- an event that is scheduled and no volume can happen
 pub can_happen : (e : Event) → IsScheduled e → IsAfterFirst e → CanHappen e
 can_happen (Volume w) s a = a
-can_happen (Call c (Rattle.dht_types.specs.declared.calls.Call.TheVariants.Lookup d n)) s a = s.1.0
-can_happen (Call c (Rattle.dht_types.specs.declared.calls.Call.TheVariants.Create d n)) s a = s.1.0
+can_happen (Call c call) s a = tt
 can_happen (Step c) s a = tt
 can_happen (Down b) s a = tt
 can_happen (Up b) s a = tt
@@ -160,7 +159,7 @@ transcript_of b c goes_on w events lines at comes limited =
       in_time = at.led.in_time;
       answers = λ i r e alone. answers_at c goes_on d s claims i (slice_get w.clients.items i) (fit.each i)
           (λ none. no_others events lines comes i (let past = past_end w.clients.items i none in omega arith)) r e alone;
-      held = holders_call c d (journals_of b.state w.bricks.items) w.clients.items w.weights (counts_of w) s fit;
+      held = holders_call c d (journals_of b.state w.bricks.items) w.clients.items w.weights (summary_of w) s fit;
       limited = limited;
       counted = fit.kept.counted;
     }

@@ -1,6 +1,7 @@
 -- What a reader of lines has of its input, and what cutting off the next line means.
 use Rattle.std.specs.Prelude.{◌≡◌, ◌≢◌, ℕ, ◌+◌, ◌<◌, ◌≤◌, ◌⊎◌, Option, List, ◌∷◌, [], ◌++◌, length, take, slice_index, All}
-use Rattle.dht_run.specs.declared.line_reader.TheConstants.{LINE_LIMIT, INPUT_LIMIT}
+use Rattle.dht_sched.specs.declared.schedule.TheConstants.{LINE_LIMIT}
+use Rattle.dht_run.specs.declared.line_reader.TheConstants.{INPUT_LIMIT}
 use Rattle.dht_run.specs.Outside.{before_told}
 
 -- a reader of lines, as its callers see it

@@ -6,11 +6,9 @@ ghost use Rattle.dht_run.specs.Outside.{before_told, IsAtEnd, IfGot, OnGotFailed
 ghost use Rattle.dht_run.specs.LineReader.{HasNoNewline, IsFirstNewline, IsWithinLimits, input_of, HasNoLine, CutsLine, CutsNothing, IsFull, Adds};
 
 use crate::source::{Got, Source};
+use dht_sched::LINE_LIMIT;
 use std::alloc::{AllocError, Global};
 use std::marker::Model;
-
-/// How many bytes a line may have, with its newline.
-pub const LINE_LIMIT: usize = 16_384;
 
 /// Within how many bytes of the input each line has to end.
 pub const INPUT_LIMIT: usize = 16_777_216;

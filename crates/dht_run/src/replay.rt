@@ -153,6 +153,7 @@ fn next_event<S: Source>(
 
 /// Carries out an event, that of this line of the schedule, and writes its lines.
 fn carry_out<B: Brick, C: Caller + Drop, K: Sink>(
+    alloc: Global,
     world: &mut World<B, C>,
     event: &Event,
     line: u64,
@@ -180,7 +181,7 @@ fn carry_out<B: Brick, C: Caller + Drop, K: Sink>(
     ensures grows { world.new.lines ≤ world.old.lines + 3 }
 {
     output.lines.clear();
-    match world.event(event, line, &mut output.lines) {
+    match world.event(alloc, event, line, &mut output.lines) {
         Ok(()) => output.write(sink),
         Err(Stop::Limit) => Err(Ending::Limit),
         Err(Stop::OutOfMemory) => Err(Ending::OutOfMemory),
@@ -235,9 +236,10 @@ fn go_on<B: Brick, C: Caller + Drop, S: Source, K: Sink>(
             return Ending::Malformed;
         }
         let line = *count + 1;
-        if let Err(ending) = carry_out(world, &event, line, sink, output) {
+        if let Err(ending) = carry_out(alloc, world, &event, line, sink, output) {
             return ending;
         }
+        drop(event);
         *count = line;
     }
 }
@@ -479,7 +481,7 @@ fn replay_volume<S: Source, K: Sink>(
     let Ok(clients) = new_clients(alloc) else {
         return Ending::OutOfMemory;
     };
-    let mut world = World::new(weights, made, clients);
+    let mut world = World::new(alloc, weights, made, clients);
     let ending = play(alloc, shown, &mut world, reader, source, sink);
     *bricks = world.into_bricks();
     ending

@@ -1,3 +1,4 @@
+pub mod DirectoryLemmas
 pub mod HexLemmas
 pub mod LineLemmas
 pub mod NameLemmas

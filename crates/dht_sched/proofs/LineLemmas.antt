@@ -1,24 +1,27 @@
 -- The lines of events: what is read is what was spelled, and a line is of one event.
-use Rattle.std.proofs.Common.{◌≡◌, ◌≢◌, ℕ, ◌*◌, ◌≤◌, ◌<◌, ◌^◌, true, false, leb, List, [], ◌∷◌, ◌++◌, inl, inr, length, map, decimal, codes, All, refl, sym, ap, subst, ◌∙◌, arith, lit<, get_or, Bor}
+use Rattle.std.proofs.Common.{◌≡◌, ◌≢◌, ℕ, ◌*◌, ◌≤◌, ◌<◌, ◌^◌, false, List, [], ◌∷◌, ◌++◌, inl, inr, length, map, decimal, codes, All, refl, sym, ap, subst, ◌∙◌, arith, lit<, get_or, Bor}
 use Rattle.std.specs.Prelude.{Option, Some, None, is_some, MatchOption, Result, Ok, Err, IfOk, IsErrOf}
 use Rattle.std.specs.List.{AllByRecursion}
-use Rattle.std.proofs.lemmas.Bool.{le-leb, false≢true}
-use Rattle.std.proofs.lemmas.Fmt.{decimal_injective, decimal_is_IsNumeral, length-decimal-le}
-use Rattle.std.proofs.lemmas.List.Elements.{recursion_from_All, All-from_get_or}
-use Rattle.std.proofs.lemmas.List.Sums.{list_all-from_AllPass}
-use Rattle.std.proofs.lemmas.Str.Parse.{digit_at}
-use Rattle.dht_types.specs.Gfid.{root}
-use Rattle.dht_types.specs.declared.identifiers.Gfid.{Gfid}
-use Rattle.dht_types.specs.declared.calls.Call.TheVariants.{Lookup, Create}
+use Rattle.std.specs.Option.{ok_or}
+use Rattle.std.proofs.lemmas.Bool.{false≢true}
+use Rattle.std.proofs.lemmas.Fmt.{decimal_injective, length-decimal-le}
+use Rattle.std.proofs.lemmas.List.Elements.{recursion_from_All}
+use Rattle.dht_types.specs.Calls.{directory_of, name_of}
+use Rattle.dht_types.specs.declared.calls.Call.{Call}
+use Rattle.dht_types.specs.declared.calls.Call.TheVariants.{Lookup, Create, Unlink}
+use Rattle.dht_types.specs.declared.events.Directory.{Directory}
 use Rattle.dht_types.specs.declared.events.Event.{Event}
 use Rattle.dht_types.specs.declared.events.Event.TheVariants.{Volume, Call as Called, Step, Down, Up, Die}
 use Rattle.dht_sched.specs.declared.fault.LineFault.{LineFault}
 use Rattle.dht_sched.specs.declared.fault.LineFault.TheVariants.{Malformed, OutOfMemory}
-use Rattle.dht_sched.specs.Reading.{ReadsUnless}
+use Rattle.dht_sched.specs.Reading.{Reads, ReadsUnless}
 use Rattle.dht_types.specs.Volume.{HasWeight}
-use Rattle.dht_sched.specs.Schedule.{directory_word, schedule_words, schedule_text, IsScheduled, IsReadOf, IsScheduledVolume, IsFileName, IsOneLine}
-use Rattle.dht_sched.specs.Spelling.{spaced, spelled, words_of}
-use Rattle.dht_sched.proofs.NameLemmas.{file_text, file_bytes, same_name, text_word, length-bytes_text-le}
+use Rattle.dht_sched.specs.Kinds.{verb_word}
+use Rattle.dht_sched.specs.Schedule.{call_words, schedule_words, schedule_text, IsShort, IsScheduled, IsScheduledVolume, IsScheduledCall, TakesMemory, IsReadOf, IsOneLine}
+use Rattle.dht_sched.specs.Spelling.{spaced, words_of}
+use Rattle.dht_sched.proofs.DirectoryLemmas.{directory_is_word, same_directory}
+use Rattle.dht_sched.proofs.NameLemmas.{same_name, name_word}
+use Rattle.dht_sched.proofs.NumberLemmas.{decimal_word}
 use Rattle.dht_sched.proofs.WordLemmas.{IsWord, words_of-spaced, spaced-words_of, no_newline, room, length-spaced-le}
 
 abbrev IsLight : ℕ → Type 0
@@ -43,11 +46,6 @@ same_weights (x ∷ v) (y ∷ w) hv hw same =
 
 -- ---- the words of an event
 
-decimal_word : (n : ℕ) → n < 2 ^ 64 → IsWord (decimal n)
-decimal_word n small =
-    let digits = (decimal_is_IsNumeral n small).0.1 in
-    list_all-from_AllPass (λ b. leb 33 b) (decimal n) (All-from_get_or (λ b. leb 33 b ≡ true) (decimal n) 0 (λ i lt. let digit = digit_at (decimal n) i digits lt in le-leb 33 _ (omega arith)))
-
 length-decimal : (n : ℕ) → n ≤ 1000 → length (decimal n) ≤ 4
 length-decimal n light = length-decimal-le 4 n (lit< tt) (omega arith) (omega arith)
 
@@ -58,14 +56,13 @@ weight_words : (w : List ℕ) → AllByRecursion IsLight w → AllByRecursion Is
 weight_words [] light = tt
 weight_words (x ∷ w) light = (decimal_word x (let l = light.0 in omega arith), weight_words w light.1)
 
-root_word : (d : Gfid) → d ≡ root → IsWord (directory_word d)
-root_word d e = subst (λ (g : Gfid). IsWord (directory_word g)) (sym e) refl
+verb_is_word : (call : Call Directory) → IsWord (verb_word call)
+verb_is_word (Lookup d n) = refl
+verb_is_word (Create d n) = refl
+verb_is_word (Unlink d n) = refl
 
-name_word : (n : List ℕ) → IsFileName n → IsWord (spelled n)
-name_word n h = let text = file_text n h in rw text (text_word n (file_bytes n h))
-
-call_words_are : (c : ℕ) (verb : List ℕ) (d : Gfid) (n : List ℕ) → IsWord verb → c < 2 ^ 64 → (d ≡ root) × IsFileName n → AllByRecursion IsWord (codes "call" ∷ decimal c ∷ verb ∷ directory_word d ∷ spelled n ∷ [])
-call_words_are c verb d n v small call = (refl, (decimal_word c small, (v, (root_word d call.0, (name_word n call.1, tt)))))
+call_words_are : (c : ℕ) (call : Call Directory) → IsScheduledCall c call → AllByRecursion IsWord (schedule_words (Called c call))
+call_words_are c call h = (refl, (decimal_word c h.client, (verb_is_word call, (directory_is_word (directory_of call) h.directory, (name_word (name_of call) h.name, tt)))))
 
 number_words_are : (word : List ℕ) (c : ℕ) → IsWord word → c < 2 ^ 64 → AllByRecursion IsWord (word ∷ decimal c ∷ [])
 number_words_are word c h small = (h, (decimal_word c small, tt))
@@ -76,8 +73,7 @@ volume_words_are w h = let few = h.few in (refl, (decimal_word (length w) (omega
 -- a line has the words of its event
 pub words_of_text : (e : Event) → IsScheduled e → words_of (schedule_text e) ≡ schedule_words e
 words_of_text (Volume w) h = words_of-spaced (codes "volume") (decimal (length w) ∷ map decimal w) (volume_words_are w h)
-words_of_text (Called c (Lookup d n)) h = words_of-spaced (codes "call") (decimal c ∷ codes "lookup" ∷ directory_word d ∷ spelled n ∷ []) (call_words_are c (codes "lookup") d n refl h.0 h.1)
-words_of_text (Called c (Create d n)) h = words_of-spaced (codes "call") (decimal c ∷ codes "create" ∷ directory_word d ∷ spelled n ∷ []) (call_words_are c (codes "create") d n refl h.0 h.1)
+words_of_text (Called c call) h = words_of-spaced (codes "call") (decimal c ∷ call_words call) (call_words_are c call h)
 words_of_text (Step x) h = words_of-spaced (codes "step") (decimal x ∷ []) (number_words_are (codes "step") x refl h)
 words_of_text (Down x) h = words_of-spaced (codes "down") (decimal x ∷ []) (number_words_are (codes "down") x refl h)
 words_of_text (Up x) h = words_of-spaced (codes "up") (decimal x ∷ []) (number_words_are (codes "up") x refl h)
@@ -89,21 +85,8 @@ length-weights : (w : List ℕ) → AllByRecursion IsLight w → room (map decim
 length-weights [] light = omega arith
 length-weights (x ∷ w) light = let first = length-decimal x light.0 in let others = length-weights w light.1 in omega arith
 
-root_length : (d : Gfid) → d ≡ root → length (directory_word d) ≡ 1
-root_length d e = subst (λ (g : Gfid). length (directory_word g) ≡ 1) (sym e) refl
-
-name_length : (n : List ℕ) → IsFileName n → length (spelled n) ≤ 765
-name_length n h = let text = file_text n h in let short = h.name.short in let size = length-bytes_text-le n in rw text (omega arith)
-
 one_line_of : (words : List (List ℕ)) → AllByRecursion IsWord words → room words < 16384 → IsOneLine (spaced words)
 one_line_of words h few = record { one = no_newline words h; short = (let size = length-spaced-le words in omega arith) }
-
-call_line : (c : ℕ) (verb : List ℕ) (d : Gfid) (n : List ℕ) → IsWord verb → length verb ≡ 6 → c < 2 ^ 64 → (d ≡ root) × IsFileName n → IsOneLine (spaced (codes "call" ∷ decimal c ∷ verb ∷ directory_word d ∷ spelled n ∷ []))
-call_line c verb d n v six small call =
-    let client = length-number c small in
-    let directory = root_length d call.0 in
-    let name = name_length n call.1 in
-    one_line_of (codes "call" ∷ decimal c ∷ verb ∷ directory_word d ∷ spelled n ∷ []) (call_words_are c verb d n v small call) (omega arith)
 
 number_line : (word : List ℕ) (c : ℕ) → IsWord word → length word ≤ 4 → c < 2 ^ 64 → IsOneLine (spaced (word ∷ decimal c ∷ []))
 number_line word c h short small = let digits = length-number c small in one_line_of (word ∷ decimal c ∷ []) (number_words_are word c h small) (omega arith)
@@ -114,8 +97,7 @@ event_line (Volume w) h =
     let bricks = length-decimal (length w) (omega arith) in
     let weights = length-weights w (recursion_from_All IsLight w h.light) in
     one_line_of (codes "volume" ∷ decimal (length w) ∷ map decimal w) (volume_words_are w h) (omega arith)
-event_line (Called c (Lookup d n)) h = call_line c (codes "lookup") d n refl refl h.0 h.1
-event_line (Called c (Create d n)) h = call_line c (codes "create") d n refl refl h.0 h.1
+event_line (Called c call) h = record { one = no_newline (schedule_words (Called c call)) (call_words_are c call h); short = h.short }
 event_line (Step x) h = number_line (codes "step") x refl (omega arith) h
 event_line (Down x) h = number_line (codes "down") x refl (omega arith) h
 event_line (Up x) h = number_line (codes "up") x refl (omega arith) h
@@ -123,22 +105,35 @@ event_line (Die x) h = number_line (codes "die") x refl (omega arith) h
 
 -- ---- a line is of one event
 
--- the first letter of the first word, the second, and the first of the third word
+-- the first letter of a word; that of the first word, and the second
+abbrev letter : List ℕ → ℕ
+letter word = get_or word 0 0
+
 abbrev kind : List (List ℕ) → ℕ
 kind [] = 0
-kind (word ∷ words) = get_or word 0 0
+kind (word ∷ words) = letter word
 
 abbrev second : List (List ℕ) → ℕ
 second [] = 0
 second (word ∷ words) = get_or word 1 0
 
-abbrev verb : List (List ℕ) → ℕ
-verb [] = 0
-verb (word ∷ []) = 0
-verb (word ∷ client ∷ words) = kind words
+-- a call is told by its verb's first letter, its directory and its name
+same_call : (a b : Call Directory) → verb_word a ≡ verb_word b → directory_of a ≡ directory_of b → name_of a ≡ name_of b → a ≡ b
+same_call (Lookup d m) (Lookup e n) verb directory name = cc
+same_call (Lookup d m) (Create e n) verb directory name = absurd (let letters : 108 ≡ 99 = ap letter verb in omega arith)
+same_call (Lookup d m) (Unlink e n) verb directory name = absurd (let letters : 108 ≡ 117 = ap letter verb in omega arith)
+same_call (Create d m) (Lookup e n) verb directory name = absurd (let letters : 99 ≡ 108 = ap letter verb in omega arith)
+same_call (Create d m) (Create e n) verb directory name = cc
+same_call (Create d m) (Unlink e n) verb directory name = absurd (let letters : 99 ≡ 117 = ap letter verb in omega arith)
+same_call (Unlink d m) (Lookup e n) verb directory name = absurd (let letters : 117 ≡ 108 = ap letter verb in omega arith)
+same_call (Unlink d m) (Create e n) verb directory name = absurd (let letters : 117 ≡ 99 = ap letter verb in omega arith)
+same_call (Unlink d m) (Unlink e n) verb directory name = cc
 
-same_call : (c1 : ℕ) (d1 : Gfid) (n1 : List ℕ) (c2 : ℕ) (d2 : Gfid) (n2 : List ℕ) → c1 < 2 ^ 64 → (d1 ≡ root) × IsFileName n1 → c2 < 2 ^ 64 → (d2 ≡ root) × IsFileName n2 → decimal c1 ≡ decimal c2 → spelled n1 ≡ spelled n2 → (c1 ≡ c2) × (d1 ≡ d2) × (n1 ≡ n2)
-same_call c1 d1 n1 c2 d2 n2 s1 h1 s2 h2 client same = (decimal_injective c1 c2 s1 s2 client, h1.0 ∙ sym h2.0, same_name n1 n2 h1.1 h2.1 same)
+call_by_words : (c : ℕ) (x : Call Directory) (e : ℕ) (y : Call Directory) → IsScheduledCall c x → IsScheduledCall e y → decimal c ∷ call_words x ≡ decimal e ∷ call_words y → (c ≡ e) × (x ≡ y)
+call_by_words c x e y hx hy same =
+    let directory = same_directory (directory_of x) (directory_of y) hx.directory hy.directory (cc same) in
+    let name = same_name (name_of x) (name_of y) hx.name hy.name (cc same) in
+    (decimal_injective c e hx.client hy.client (cc same), same_call x y (cc same) directory name)
 
 pub same_event : (a b : Event) → IsScheduled a → IsScheduled b → schedule_words a ≡ schedule_words b → a ≡ b
 same_event (Volume v) (Volume w) ha hb same = ap Volume (same_weights v w (recursion_from_All IsLight v ha.light) (recursion_from_All IsLight w hb.light) (cc same))
@@ -148,10 +143,7 @@ same_event (Volume x) (Down y) ha hb same = absurd (let letters : 118 ≡ 100 = 
 same_event (Volume x) (Up y) ha hb same = absurd (let letters : 118 ≡ 117 = ap kind same in omega arith)
 same_event (Volume x) (Die y) ha hb same = absurd (let letters : 118 ≡ 100 = ap kind same in omega arith)
 same_event (Called x xcall) (Volume y) ha hb same = absurd (let letters : 99 ≡ 118 = ap kind same in omega arith)
-same_event (Called b (Lookup d m)) (Called c (Lookup e n)) ha hb same = let p = same_call b d m c e n ha.0 ha.1 hb.0 hb.1 (cc same) (cc same) in let same_client = p.0 in let same_directory = p.1 in let same_file = p.2 in cc
-same_event (Called b (Lookup d m)) (Called c (Create e n)) ha hb same = absurd (let letters : 108 ≡ 99 = ap verb same in omega arith)
-same_event (Called b (Create d m)) (Called c (Lookup e n)) ha hb same = absurd (let letters : 99 ≡ 108 = ap verb same in omega arith)
-same_event (Called b (Create d m)) (Called c (Create e n)) ha hb same = let p = same_call b d m c e n ha.0 ha.1 hb.0 hb.1 (cc same) (cc same) in let same_client = p.0 in let same_directory = p.1 in let same_file = p.2 in cc
+same_event (Called b x) (Called c y) ha hb same = let p = call_by_words b x c y ha hb (cc same) in let same_client = p.0 in let same_words = p.1 in cc
 same_event (Called x xcall) (Step y) ha hb same = absurd (let letters : 99 ≡ 115 = ap kind same in omega arith)
 same_event (Called x xcall) (Down y) ha hb same = absurd (let letters : 99 ≡ 100 = ap kind same in omega arith)
 same_event (Called x xcall) (Up y) ha hb same = absurd (let letters : 99 ≡ 117 = ap kind same in omega arith)
@@ -196,35 +188,58 @@ read_malformed line r h bad e fits same =
     let none = subst (λ (x : Result Event LineFault). ReadsUnless schedule_words IsScheduled (words_of line) x) bad h in
     none e fits (line_words line e fits same)
 
-out_of_memory : (e : Event) (rest : List (List ℕ)) → schedule_words e ≡ codes "volume" ∷ rest → IsReadOf e (Err OutOfMemory)
-out_of_memory (Volume w) rest same = inr refl
-out_of_memory (Called c call) rest same = absurd (let letters : 99 ≡ 118 = ap kind same in omega arith)
-out_of_memory (Step c) rest same = absurd (let letters : 115 ≡ 118 = ap kind same in omega arith)
-out_of_memory (Down b) rest same = absurd (let letters : 100 ≡ 118 = ap kind same in omega arith)
-out_of_memory (Up b) rest same = absurd (let letters : 117 ≡ 118 = ap kind same in omega arith)
-out_of_memory (Die c) rest same = absurd (let letters : 100 ≡ 118 = ap kind same in omega arith)
+out_of_memory : (e : Event) → TakesMemory (schedule_words e) → IsReadOf e (Err OutOfMemory)
+out_of_memory (Volume w) h = inr refl
+out_of_memory (Called c call) h = inr refl
+out_of_memory (Step c) (rest, inl same) = absurd (let letters : 115 ≡ 118 = ap kind same in omega arith)
+out_of_memory (Step c) (rest, inr same) = absurd (let letters : 115 ≡ 99 = ap kind same in omega arith)
+out_of_memory (Down b) (rest, inl same) = absurd (let letters : 100 ≡ 118 = ap kind same in omega arith)
+out_of_memory (Down b) (rest, inr same) = absurd (let letters : 100 ≡ 99 = ap kind same in omega arith)
+out_of_memory (Up b) (rest, inl same) = absurd (let letters : 117 ≡ 118 = ap kind same in omega arith)
+out_of_memory (Up b) (rest, inr same) = absurd (let letters : 117 ≡ 99 = ap kind same in omega arith)
+out_of_memory (Die c) (rest, inl same) = absurd (let letters : 100 ≡ 118 = ap kind same in omega arith)
+out_of_memory (Die c) (rest, inr same) = absurd (let letters : 100 ≡ 99 = ap kind same in omega arith)
 
 is_read : (e : Event) → IsReadOf e (Ok e)
 is_read (Volume w) = inl refl
-is_read (Called c call) = refl
+is_read (Called c call) = inl refl
 is_read (Step c) = refl
 is_read (Down b) = refl
 is_read (Up b) = refl
 is_read (Die c) = refl
 
-pub read_only : (line : List ℕ) (r : Result Event LineFault) → ReadsUnless schedule_words IsScheduled (words_of line) r → (IsErrOf r OutOfMemory → (rest : List (List ℕ)) × (words_of line ≡ codes "volume" ∷ rest)) → (e : Event) → IsScheduled e → line ≡ schedule_text e → IsReadOf e r
+pub read_only : (line : List ℕ) (r : Result Event LineFault) → ReadsUnless schedule_words IsScheduled (words_of line) r → (IsErrOf r OutOfMemory → TakesMemory (words_of line)) → (e : Event) → IsScheduled e → line ≡ schedule_text e → IsReadOf e r
 read_only line (Ok f) h memory e fits same =
     let f_is : e ≡ f = same_event e f fits h.0 (line_words line e fits same ∙ sym h.1) in
     subst (λ (x : Event). IsReadOf e (Ok x)) f_is (is_read e)
 read_only line (Err Malformed) h memory e fits same = absurd (h e fits (line_words line e fits same))
-read_only line (Err OutOfMemory) h memory e fits same = let m = memory refl in out_of_memory e m.0 (line_words line e fits same ∙ m.1)
+read_only line (Err OutOfMemory) h memory e fits same = out_of_memory e (subst TakesMemory (sym (line_words line e fits same)) (memory refl))
+
+-- a line that is too long
+pub too_long : (line : List ℕ) → 16384 ≤ length line → (e : Event) → IsScheduled e → line ≢ schedule_text e
+too_long line long e h same = let short = (event_line e h).short in let size = ap length same in omega arith
+
+pub short_words : (line : List ℕ) (words : List (List ℕ)) → words ≡ words_of line → length line < 16384 → IsShort (spaced words)
+short_words line words are short = let size = ap length (ap spaced are ∙ spaced-words_of line) in omega arith
 
 -- ---- the parts of lines
 
--- the words of a call
-pub four_words : (words r1 r2 r3 r4 : List (List ℕ)) (w1 w2 w3 w4 x1 x2 x3 x4 : List ℕ) → words ≡ w1 ∷ r1 → r1 ≡ w2 ∷ r2 → r2 ≡ w3 ∷ r3 → r3 ≡ w4 ∷ r4 → r4 ≡ [] → x1 ≡ w1 → w2 ≡ x2 → x3 ≡ w3 → x4 ≡ w4
-    → codes "call" ∷ x1 ∷ x2 ∷ x3 ∷ x4 ∷ [] ≡ codes "call" ∷ words
-four_words words r1 r2 r3 r4 w1 w2 w3 w4 x1 x2 x3 x4 e1 e2 e3 e4 e5 f1 f2 f3 f4 = cc
+-- the words behind the first one
+pub kind_words : (words rest : List (List ℕ)) (kind word : List ℕ) → words ≡ kind ∷ rest → kind ≡ word → words ≡ word ∷ rest
+kind_words words rest kind word starts is = cc
+
+pub reads_or : (words : List (List ℕ)) (r : Option Event) (result : Result Event LineFault) → result ≡ ok_or r Malformed → Reads schedule_words IsScheduled words r → ReadsUnless schedule_words IsScheduled words result
+reads_or words None result is h = rw is h
+reads_or words (Some e) result is h = rw is h
+
+-- words that are no call's
+pub no_call : (words : List (List ℕ)) → ((c : ℕ) (call : Call Directory) → IsScheduledCall c call → words ≢ decimal c ∷ call_words call) → (e : Event) → IsScheduled e → schedule_words e ≢ codes "call" ∷ words
+no_call words none (Volume w) h same = absurd (let letters : 118 ≡ 99 = ap kind same in omega arith)
+no_call words none (Called c call) h same = none c call h (cc same)
+no_call words none (Step c) h same = absurd (let letters : 115 ≡ 99 = ap kind same in omega arith)
+no_call words none (Down b) h same = absurd (let letters : 100 ≡ 99 = ap kind same in omega arith)
+no_call words none (Up b) h same = absurd (let letters : 117 ≡ 99 = ap kind same in omega arith)
+no_call words none (Die c) h same = absurd (let letters : 100 ≡ 99 = ap kind same in omega arith)
 
 -- where no item came, none was left
 pub none_left : (words rest : List (List ℕ)) (o : Option (Bor (List ℕ))) → MatchOption o ((words ≡ []) × (rest ≡ [])) (λ x. words ≡ x.now ∷ rest) → is_some o ≡ false → words ≡ []

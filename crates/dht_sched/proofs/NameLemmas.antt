@@ -1,20 +1,18 @@
 -- No spelling of a byte begins another, so a name has one spelling, and a spelling is of one name.
-use Rattle.std.proofs.Common.{◌≡◌, ◌≢◌, ℕ, ◌+◌, ◌*◌, ◌<◌, ◌≤◌, ◌/◌, ◌%◌, Bool, true, false, leb, eqb, List, [], ◌∷◌, ◌++◌, ◌⊎◌, inl, inr, length, take, drop, get_or, set, All, refl, sym, ap, subst, ◌∙◌, append_assoc, arith, length-append}
+use Rattle.std.proofs.Common.{◌≡◌, ◌≢◌, ℕ, ◌<◌, ◌≤◌, ◌/◌, ◌%◌, Bool, true, false, leb, eqb, List, [], ◌∷◌, ◌++◌, ◌⊎◌, inl, inr, length, take, drop, get_or, codes, refl, sym, ap, subst, ◌∙◌, append_assoc, arith}
 use Rattle.std.specs.List.{flat_map, AllByRecursion}
-use Rattle.std.specs.Prelude.{Result, Ok, Err, IsOk, IfOk}
-use Rattle.std.specs.Result.{result_ok}
+use Rattle.std.specs.Prelude.{Result, Ok, Err}
 use Rattle.std.proofs.lemmas.Bool.{cond-true, cond-false, eqb-true, false≢true}
 use Rattle.std.proofs.lemmas.Bool.Decides.{nat_tests}
-use Rattle.std.proofs.lemmas.List.{append-nil, take_more_set}
-use Rattle.std.proofs.lemmas.List.Elements.{recursion_from_All, All-push}
+use Rattle.std.proofs.lemmas.List.{append-nil}
+use Rattle.std.proofs.lemmas.List.Elements.{recursion_from_All}
 use Rattle.std.proofs.lemmas.List.Concat.{flat_map-append}
 use Rattle.std.proofs.lemmas.List.Folds.{list_all-append}
-use Rattle.dht_types.specs.Name.{IsName}
-use Rattle.dht_types.specs.declared.errors.Errno.{Errno}
 use Rattle.dht_types.specs.Text.{hex_digit}
-use Rattle.dht_sched.specs.Reading.{Reads}
-use Rattle.dht_sched.specs.Schedule.{IsFileName}
-use Rattle.dht_sched.specs.Spelling.{is_plain, spelled_byte, spelled}
+use Rattle.dht_sched.specs.declared.fault.LineFault.{LineFault}
+use Rattle.dht_sched.specs.declared.fault.LineFault.TheVariants.{Malformed, OutOfMemory}
+use Rattle.dht_sched.specs.Reading.{ReadsUnless}
+use Rattle.dht_sched.specs.Spelling.{AreBytes, is_plain, spelled_byte, spelled}
 use Rattle.dht_sched.proofs.WordLemmas.{IsWord}
 
 pub spelled_plain : (b : ℕ) → is_plain b ≡ true → spelled_byte b ≡ b ∷ []
@@ -89,25 +87,34 @@ goes_on (x ∷ xs) rest (y ∷ n) hx hn e =
     let tail = q.whole in
     record { more = q.more; whole = cc (head, tail); left = q.left; small = q.small }
 
--- a file's name is not empty
-pub file_text : (n : List ℕ) → IsFileName n → spelled n ≡ bytes_text n
-file_text [] h = absurd (let p = h.name.positive in omega arith)
-file_text (b ∷ n) h = refl
+name_bytes : (n : List ℕ) → AreBytes n → AllByRecursion IsByte n
+name_bytes n h = recursion_from_All IsByte n h
 
-pub file_bytes : (n : List ℕ) → IsFileName n → AllByRecursion IsByte n
-file_bytes n h = recursion_from_All IsByte n h.bytes
+nothing_left : (more : List ℕ) → [] ≡ bytes_text more → more ≡ []
+nothing_left [] e = refl
+nothing_left (b ∷ more) e = absurd (not_nil b (bytes_text more) (sym e))
 
--- two names with one spelling are one
-pub same_name : (m n : List ℕ) → IsFileName m → IsFileName n → spelled m ≡ spelled n → m ≡ n
-same_name m n hm hn e =
-    let f : bytes_text m ++ [] ≡ bytes_text n = append-nil (bytes_text m) ∙ (sym (file_text m hm) ∙ (e ∙ file_text n hn)) in
-    let g = goes_on m [] n (file_bytes m hm) (file_bytes n hn) f in
+same_bytes : (m n : List ℕ) → AllByRecursion IsByte m → AllByRecursion IsByte n → bytes_text m ≡ bytes_text n → m ≡ n
+same_bytes m n hm hn e =
+    let f : bytes_text m ++ [] ≡ bytes_text n = append-nil (bytes_text m) ∙ e in
+    let g = goes_on m [] n hm hn f in
     let ends = nothing_left g.more g.left in
     sym (append-nil m) ∙ (ap (λ more. m ++ more) (sym ends) ∙ sym g.whole)
-  where
-    nothing_left : (more : List ℕ) → [] ≡ bytes_text more → more ≡ []
-    nothing_left [] e' = refl
-    nothing_left (b ∷ more) e' = absurd (not_nil b (bytes_text more) (sym e'))
+
+-- the spelling of the empty name is none of bytes
+not_empty_name : (b : ℕ) (n : List ℕ) → bytes_text (b ∷ n) ≡ codes "%-" → ⊥
+not_empty_name b n e =
+    elim (plain_or b) [
+      | inl p ↦ (let f : b ∷ bytes_text n ≡ codes "%-" = rw (spelled_plain b p) at e in not_percent b (cc f) p)
+      | inr p ↦ (let f : 37 ∷ hex_digit (b / 16) ∷ hex_digit (b % 16) ∷ bytes_text n ≡ codes "%-" = rw (spelled_escaped b p) at e in cc f)
+    ]
+
+-- two names with one spelling are one
+pub same_name : (m n : List ℕ) → AreBytes m → AreBytes n → spelled m ≡ spelled n → m ≡ n
+same_name [] [] hm hn e = refl
+same_name [] (b ∷ n) hm hn e = absurd (not_empty_name b n (sym e))
+same_name (a ∷ m) [] hm hn e = absurd (not_empty_name a m e)
+same_name (a ∷ m) (b ∷ n) hm hn e = same_bytes (a ∷ m) (b ∷ n) (name_bytes (a ∷ m) hm) (name_bytes (b ∷ n) hn) e
 
 -- ---- a spelling as the prefix of a text
 
@@ -148,53 +155,28 @@ escaped_prefix text [] first b e percent long p same = absurd (omega arith)
 escaped_prefix text (x ∷ []) first b e percent long p same = absurd (omega arith)
 escaped_prefix text (x ∷ y ∷ rest) first b e percent long p same = rw (spelled_escaped b p) (cc (e, percent, same))
 
--- ---- a name that was read up to a rest
+-- ---- bytes that were read up to a rest
 
 -- what is left begins with no spelling
-pub stops : (word xs rest : List ℕ) → word ≡ bytes_text xs ++ rest → AllByRecursion IsByte xs → 0 < length rest → ((b : ℕ) (more : List ℕ) → b < 256 → rest ≢ spelled_byte b ++ more) → (n : List ℕ) → IsFileName n → spelled n ≢ word
-stops word xs rest e small long none n h same =
-    let g = goes_on xs rest n small (file_bytes n h) (sym e ∙ (sym same ∙ file_text n h)) in
+pub stops : (text xs rest : List ℕ) → text ≡ bytes_text xs ++ rest → AreBytes xs → 0 < length rest → ((b : ℕ) (more : List ℕ) → b < 256 → rest ≢ spelled_byte b ++ more) → (n : List ℕ) → AreBytes n → bytes_text n ≢ text
+stops text xs rest e small long none n h same =
+    let g = goes_on xs rest n (name_bytes xs small) (name_bytes n h) (sym e ∙ sym same) in
     next g.more g.left g.small
   where
     next : (more : List ℕ) → rest ≡ bytes_text more → AllByRecursion IsByte more → ⊥
     next [] left bytes = let nothing = ap length left in omega arith
     next (b ∷ more) left bytes = none b (bytes_text more) bytes.0 left
 
--- what was read is as long as a name may be, and something is left
-pub too_long : (word xs rest : List ℕ) → word ≡ bytes_text xs ++ rest → AllByRecursion IsByte xs → 0 < length rest → length xs ≡ 255 → (n : List ℕ) → IsFileName n → spelled n ≢ word
-too_long word xs rest e small long full n h same =
-    let g = goes_on xs rest n small (file_bytes n h) (sym e ∙ (sym same ∙ file_text n h)) in
-    let short = h.name.short in
-    let sum = ap length g.whole ∙ length-append xs g.more in
-    next g.more g.left (omega arith)
-  where
-    next : (more : List ℕ) → rest ≡ bytes_text more → length more < 1 → ⊥
-    next [] left none = let nothing = ap length left in omega arith
-    next (b ∷ more) left none = omega arith
-
 -- nothing is left
-pub read_whole : (word xs rest : List ℕ) → word ≡ bytes_text xs ++ rest → length rest ≡ 0 → word ≡ bytes_text xs
-read_whole word xs [] e none = e ∙ append-nil (bytes_text xs)
-read_whole word xs (b ∷ rest) e none = absurd (omega arith)
-
-pub only_name : (word xs : List ℕ) → word ≡ bytes_text xs → AllByRecursion IsByte xs → (n : List ℕ) → IsFileName n → spelled n ≡ word → xs ≡ n
-only_name word xs e small n h same =
-    let g = goes_on xs [] n small (file_bytes n h) (append-nil (bytes_text xs) ∙ (sym e ∙ (sym same ∙ file_text n h))) in
-    ends g.more g.left g.whole
-  where
-    ends : (more : List ℕ) → [] ≡ bytes_text more → n ≡ xs ++ more → xs ≡ n
-    ends [] left whole = sym (append-nil xs) ∙ sym whole
-    ends (b ∷ more) left whole = absurd (not_nil b (bytes_text more) (sym left))
+pub read_whole : (text xs rest : List ℕ) → text ≡ bytes_text xs ++ rest → length rest ≡ 0 → bytes_text xs ≡ text
+read_whole text xs [] e none = sym (e ∙ append-nil (bytes_text xs))
+read_whole text xs (b ∷ rest) e none = absurd (omega arith)
 
 -- one byte more
-pub read_on : (word bytes rest after : List ℕ) (size b : ℕ) → size < length bytes → word ≡ bytes_text (take size bytes) ++ rest → rest ≡ spelled_byte b ++ after → word ≡ bytes_text (take (size + 1) (set bytes size b)) ++ after
-read_on word bytes rest after size b lt e f =
-    let extended : take (size + 1) (set bytes size b) ≡ take size bytes ++ b ∷ [] = take_more_set bytes size b lt in
-    let text : bytes_text (take (size + 1) (set bytes size b)) ≡ bytes_text (take size bytes) ++ spelled_byte b = ap bytes_text extended ∙ (flat_map-append spelled_byte (take size bytes) (b ∷ []) ∙ ap (λ t. bytes_text (take size bytes) ++ t) (append-nil (spelled_byte b))) in
-    e ∙ (ap (λ r. bytes_text (take size bytes) ++ r) f ∙ (sym (append_assoc (bytes_text (take size bytes)) (spelled_byte b) after) ∙ ap (λ t. t ++ after) (sym text)))
-
-pub bytes_on : (bytes : List ℕ) (size b : ℕ) → size < length bytes → b < 256 → All IsByte (take size bytes) → All IsByte (take (size + 1) (set bytes size b))
-bytes_on bytes size b lt small so_far = let extended = take_more_set bytes size b lt in rw extended (All-push IsByte (take size bytes) b so_far small)
+pub read_on : (text xs rest after : List ℕ) (b : ℕ) → text ≡ bytes_text xs ++ rest → rest ≡ spelled_byte b ++ after → text ≡ bytes_text (xs ++ b ∷ []) ++ after
+read_on text xs rest after b e f =
+    let spelled_on : bytes_text (xs ++ b ∷ []) ≡ bytes_text xs ++ spelled_byte b = flat_map-append spelled_byte xs (b ∷ []) ∙ ap (λ t. bytes_text xs ++ t) (append-nil (spelled_byte b)) in
+    e ∙ (ap (λ r. bytes_text xs ++ r) f ∙ (sym (append_assoc (bytes_text xs) (spelled_byte b) after) ∙ ap (λ t. t ++ after) (sym spelled_on)))
 
 pub shorter : (rest after : List ℕ) (b : ℕ) → rest ≡ spelled_byte b ++ after → length after < length rest
 shorter rest after b e =
@@ -203,14 +185,26 @@ shorter rest after b e =
       | inr p ↦ (let f : rest ≡ 37 ∷ hex_digit (b / 16) ∷ hex_digit (b % 16) ∷ after = rw (spelled_escaped b p) at e in let size = ap length f in omega arith)
     ]
 
--- the name that was read, or none
-pub name_read : (word xs : List ℕ) (r : Result (List ℕ) Errno) → word ≡ bytes_text xs → All IsByte xs → (IsOk r → IsName xs) × (IsName xs → IsOk r) → IfOk r (λ n. n ≡ xs) → Reads spelled IsFileName word (result_ok r)
-name_read word xs (Ok n) e small iff same =
-    let file : IsFileName xs = record { bytes = small; name = iff.0 refl } in
-    subst (λ (m : List ℕ). IsFileName m × (spelled m ≡ word)) (sym same) (file, file_text xs file ∙ sym e)
-name_read word xs (Err error) e small iff same = λ n h text.
-    let same_xs = only_name word xs e (recursion_from_All IsByte xs small) n h text in
-    false≢true (iff.1 (subst IsName (sym same_xs) h.name))
+-- ---- a name by its bytes
+
+-- a name's spelling is a text
+name_begins : (n : List ℕ) → 0 < length (spelled n)
+name_begins [] = omega arith
+name_begins (b ∷ n) = begins b (bytes_text n)
+
+pub no_name : (word : List ℕ) → length word ≡ 0 → (n : List ℕ) → spelled n ≢ word
+no_name word none n same = let long = name_begins n in let size = ap length same in omega arith
+
+-- a word that is not `%-` spells a name as its bytes
+pub name_read : (word : List ℕ) (r : Result (List ℕ) LineFault) → word ≢ codes "%-" → 0 < length word → ReadsUnless bytes_text AreBytes word r → ReadsUnless spelled AreBytes word r
+name_read word (Ok []) other some h = absurd (let size = ap length h.1 in omega arith)
+name_read word (Ok (b ∷ n)) other some h = h
+name_read word (Err Malformed) other some h = none
+  where
+    none : (n : List ℕ) → AreBytes n → spelled n ≢ word
+    none [] bytes same = other (sym same)
+    none (b ∷ n) bytes same = h (b ∷ n) bytes same
+name_read word (Err OutOfMemory) other some h = tt
 
 -- ---- a test of emptiness
 
@@ -236,20 +230,10 @@ byte_word b small =
       | inr p ↦ rw (spelled_escaped b p, digit_above (b / 16) (omega arith), digit_above (b % 16) (omega arith)) refl
     ]
 
-pub text_word : (n : List ℕ) → AllByRecursion IsByte n → IsWord (bytes_text n)
+text_word : (n : List ℕ) → AllByRecursion IsByte n → IsWord (bytes_text n)
 text_word [] h = refl
 text_word (b ∷ n) h = rw (list_all-append (λ c. leb 33 c) (spelled_byte b) (bytes_text n), byte_word b h.0) (text_word n h.1)
 
-length-spelled_byte-le : (b : ℕ) → length (spelled_byte b) ≤ 3
-length-spelled_byte-le b =
-    elim (plain_or b) [
-      | inl p ↦ rw (spelled_plain b p) (omega arith)
-      | inr p ↦ rw (spelled_escaped b p) (omega arith)
-    ]
-
-pub length-bytes_text-le : (n : List ℕ) → length (bytes_text n) ≤ 3 * length n
-length-bytes_text-le [] = omega arith
-length-bytes_text-le (b ∷ n) =
-    let first = length-spelled_byte-le b in
-    let others = length-bytes_text-le n in
-    omega (arith, length-append (spelled_byte b) (bytes_text n))
+pub name_word : (n : List ℕ) → AreBytes n → IsWord (spelled n)
+name_word [] h = refl
+name_word (b ∷ n) h = text_word (b ∷ n) (name_bytes (b ∷ n) h)

@@ -1,14 +1,19 @@
 -- A number is read by printing it again.
-use Rattle.std.proofs.Common.{◌≡◌, ◌≢◌, ℕ, ◌^◌, ◌<◌, ◌≤◌, arith, Bool, true, false, List, Some, None, Result, Ok, Err, decimal, sym, ap, ◌∙◌}
+use Rattle.std.proofs.Common.{◌≡◌, ◌≢◌, ℕ, ◌^◌, ◌<◌, ◌≤◌, arith, Bool, true, false, leb, List, Some, None, Result, Ok, Err, decimal, sym, ap, ◌∙◌}
 use Rattle.std.specs.Prelude.{IsUtf8}
 use Rattle.std.specs.Bool.{then_some}
 use Rattle.std.specs.Result.{MatchResult, result_ok}
 use Rattle.std.specs.Str.{bytes_eq}
 use Rattle.std.specs.Str.Parse.{ParsesUnsigned}
-use Rattle.std.proofs.lemmas.Fmt.{parse-decimal, IsAscii-decimal, decimal_injective}
+use Rattle.std.proofs.lemmas.Bool.{le-leb}
+use Rattle.std.proofs.lemmas.Fmt.{parse-decimal, IsAscii-decimal, decimal_injective, decimal_is_IsNumeral}
+use Rattle.std.proofs.lemmas.List.Elements.{All-from_get_or}
+use Rattle.std.proofs.lemmas.List.Sums.{list_all-from_AllPass}
+use Rattle.std.proofs.lemmas.Str.Parse.{digit_at}
 use Rattle.std.proofs.lemmas.Slice.Eq.{bytes_eq-Decides}
 use Rattle.std.proofs.lemmas.Str.{IsUtf8-from_ascii}
 use Rattle.dht_sched.specs.Reading.{Reads}
+use Rattle.dht_sched.proofs.WordLemmas.{IsWord}
 
 pub at_none : {A E : Type 0} (P : A → Type 0) (Q : E → Type 0) (r : Result A E) → MatchResult r P Q → None ≡ result_ok r → (e : E) × Q e
 at_none P Q (Ok x) h e = absurd cc
@@ -44,3 +49,9 @@ pub too_heavy : (word : List ℕ) (n : ℕ) → n < 2 ^ 64 → decimal n ≡ wor
 too_heavy word n small same heavy w light again =
     let w_is : w ≡ n = decimal_injective w n (omega arith) small (again ∙ sym same) in
     omega arith
+
+-- a number is a word
+pub decimal_word : (n : ℕ) → n < 2 ^ 64 → IsWord (decimal n)
+decimal_word n small =
+    let digits = (decimal_is_IsNumeral n small).0.1 in
+    list_all-from_AllPass (λ b. leb 33 b) (decimal n) (All-from_get_or (λ b. leb 33 b ≡ true) (decimal n) 0 (λ i lt. let digit = digit_at (decimal n) i digits lt in le-leb 33 _ (omega arith)))

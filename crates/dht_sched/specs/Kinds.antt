@@ -1,11 +1,19 @@
--- The words of requests and replies.
+-- The words of calls, requests and replies.
 use Rattle.std.specs.Prelude.{ℕ, Bool, true, false, List, ◌++◌, codes}
+use Rattle.dht_types.specs.declared.calls.Call.{Call}
+use Rattle.dht_types.specs.declared.calls.Call.TheVariants as call
 use Rattle.dht_types.specs.declared.lines.RequestKind.{RequestKind}
 use Rattle.dht_types.specs.declared.lines.RequestKind.TheVariants as request
 use Rattle.dht_types.specs.declared.lines.Refusal.{Refusal}
 use Rattle.dht_types.specs.declared.lines.Refusal.TheVariants as refusal
 use Rattle.dht_types.specs.declared.lines.ReplyKind.{ReplyKind}
 use Rattle.dht_types.specs.declared.lines.ReplyKind.TheVariants as reply
+
+-- the word of a call
+abbrev pub verb_word : {D : Type 0} → Call D → List ℕ
+verb_word (call.Lookup d n) = codes "lookup"
+verb_word (call.Create d n) = codes "create"
+verb_word (call.Unlink d n) = codes "unlink"
 
 abbrev pub request_word : RequestKind → List ℕ
 request_word request.Lock = codes "lock"

@@ -1,5 +1,5 @@
 -- How words and names are spelled in a line.
-use Rattle.std.specs.Prelude.{ℕ, Bool, ◌/◌, ◌%◌, ◌==◌, ◌&&◌, not, nat_le, if◌then◌else◌, Option, Some, None, List, [], ◌∷◌, codes}
+use Rattle.std.specs.Prelude.{ℕ, Bool, ◌/◌, ◌%◌, ◌==◌, ◌<◌, ◌&&◌, not, nat_le, if◌then◌else◌, Option, Some, None, List, [], ◌∷◌, codes, All}
 use Rattle.std.specs.List.{flat_map, join_with_byte, slice_split}
 use Rattle.dht_types.specs.Text.{hex_digit}
 
@@ -28,3 +28,7 @@ spelled_byte b = if is_plain b then b ∷ [] else 37 ∷ hex_digit (b / 16) ∷ 
 abbrev pub spelled : List ℕ → List ℕ
 spelled [] = codes "%-"
 spelled (b ∷ bs) = flat_map spelled_byte (b ∷ bs)
+
+-- the bytes that a name may have
+abbrev pub AreBytes : List ℕ → Type 0
+AreBytes name = All (λ b. b < 256) name

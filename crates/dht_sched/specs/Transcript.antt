@@ -1,33 +1,34 @@
 -- The lines of a transcript, each with its newline.
 use Rattle.std.specs.Prelude.{ℕ, Option, Some, None, List, [], ◌∷◌, ◌++◌, length, map, codes, decimal}
 use Rattle.std.specs.List.{flat_map}
+use Rattle.dht_types.specs.Calls.{directory_of, name_of}
 use Rattle.dht_types.specs.Errno.{errno_word}
 use Rattle.dht_types.specs.Text.{gfid_text}
+use Rattle.dht_types.specs.declared.identifiers.Gfid.{Gfid}
 use Rattle.dht_types.specs.declared.calls.Call.{Call}
-use Rattle.dht_types.specs.declared.calls.Call.TheVariants.{Lookup, Create}
 use Rattle.dht_types.specs.declared.calls.Answer.{Answer}
-use Rattle.dht_types.specs.declared.calls.Answer.TheVariants.{File, Dir, Made, Fault}
+use Rattle.dht_types.specs.declared.calls.Answer.TheVariants.{File, Dir, Made, Done, Fault}
 use Rattle.dht_types.specs.declared.calls.TreeStep.{TreeStep}
-use Rattle.dht_types.specs.declared.calls.TreeStep.TheVariants.{AddFile}
+use Rattle.dht_types.specs.declared.calls.TreeStep.TheVariants.{AddFile, RemoveFile}
 use Rattle.dht_types.specs.declared.lines.Cause.{Cause}
-use Rattle.dht_types.specs.declared.lines.Cause.TheVariants.{Unknown, Dead, Busy, Idle}
+use Rattle.dht_types.specs.declared.lines.Cause.TheVariants.{Unknown, Dead, Busy, Idle, Answer as OfAnswer}
 use Rattle.dht_types.specs.declared.lines.Line.{Line}
 use Rattle.dht_types.specs.declared.lines.Line.TheVariants.{Volume, Called, Stepped, Waited, Tree, Answered, WentDown, CameUp, Died, Refused}
 use Rattle.dht_types.specs.declared.lines.DumpLine.{DumpLine}
 use Rattle.dht_sched.specs.Dump.{dump_words}
-use Rattle.dht_sched.specs.Kinds.{request_word, reply_word}
+use Rattle.dht_sched.specs.Kinds.{verb_word, request_word, reply_word}
 use Rattle.dht_sched.specs.Spelling.{spaced, spelled}
 
 -- the line of these words
 abbrev pub text_of : List (List ℕ) → List ℕ
 text_of words = spaced words ++ 10 ∷ []
 
-abbrev pub called_words : Call → List (List ℕ)
-called_words (Lookup d n) = codes "lookup" ∷ gfid_text d ∷ spelled n ∷ []
-called_words (Create d n) = codes "create" ∷ gfid_text d ∷ spelled n ∷ []
+abbrev pub called_words : Call Gfid → List (List ℕ)
+called_words call = verb_word call ∷ gfid_text (directory_of call) ∷ spelled (name_of call) ∷ []
 
 abbrev pub tree_words : TreeStep → List (List ℕ)
 tree_words (AddFile d n f) = codes "add-file" ∷ gfid_text d ∷ spelled n ∷ gfid_text f ∷ []
+tree_words (RemoveFile d n) = codes "remove-file" ∷ gfid_text d ∷ spelled n ∷ []
 
 -- the point of an answer, where it has one
 abbrev pub point_words : Option ℕ → List (List ℕ)
@@ -38,6 +39,7 @@ abbrev pub answer_words : Answer → List (List ℕ)
 answer_words (File f) = codes "file" ∷ gfid_text f ∷ []
 answer_words (Dir g) = codes "dir" ∷ gfid_text g ∷ []
 answer_words (Made f) = codes "made" ∷ gfid_text f ∷ []
+answer_words Done = codes "ok" ∷ []
 answer_words (Fault error) = errno_word error ∷ []
 
 abbrev pub cause_word : Cause → List ℕ
@@ -45,6 +47,7 @@ cause_word Unknown = codes "unknown"
 cause_word Dead = codes "dead"
 cause_word Busy = codes "busy"
 cause_word Idle = codes "idle"
+cause_word OfAnswer = codes "answer"
 
 abbrev pub line_words : Line → List (List ℕ)
 line_words (Volume w) = codes "volume" ∷ decimal (length w) ∷ map decimal w

@@ -31,7 +31,13 @@ pub fn print_dump_line(line: &DumpLine, out: &mut Vec<u8>) -> Result<(), AllocEr
         DumpLine::Slot(brick, directory, name, slot) => {
             let (brick, directory) = (Field::Number(u64::from(brick.0)), Field::Gfid(*directory));
             let (main, standby) = (Field::Main(&slot.main), Field::Standby(slot.standby));
-            let words = [brick, directory, Field::Name(name), main, standby];
+            let words = [
+                brick,
+                directory,
+                Field::Name(name.as_bytes()),
+                main,
+                standby,
+            ];
             print_fields(out, "slot", &words)
         }
         DumpLine::File(brick, file, line) => {

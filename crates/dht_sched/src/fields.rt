@@ -14,7 +14,6 @@ use crate::names::push_name;
 use dht_types::bytes::Bytes;
 use dht_types::identifiers::{BrickNo, Gfid};
 use dht_types::lines::RecordLine;
-use dht_types::names::Name;
 use dht_types::stored::{Main, Standby};
 use itoa::Buffer;
 use std::alloc::AllocError;
@@ -30,8 +29,8 @@ pub enum Field<'a> {
     Numbers(&'a [u16]),
     /// The line at which an answer holds: `at` and its number, and nothing where there is none.
     Point(Option<u64>),
-    /// A name, spelled.
-    Name(&'a Name),
+    /// A name of these bytes, spelled.
+    Name(&'a [u8]),
     /// The text of a gfid.
     Gfid(Gfid),
     /// The attribute of a directory: in hexadecimal digits, `x` where it is empty, and `-` where there
@@ -120,11 +119,11 @@ fn push_hex_word(out: &mut Vec<u8>, bytes: &[u8]) -> Result<(), AllocError>
 }
 
 /// Appends a space and the spelling of a name.
-fn push_name_word(out: &mut Vec<u8>, name: &Name) -> Result<(), AllocError>
+fn push_name_word(out: &mut Vec<u8>, name: &[u8]) -> Result<(), AllocError>
     ensures { Appends out.old.items out.new.items result (32 ∷ spelled name.now) }
 {
     out.push(b' ')?;
-    push_name(out, name.as_bytes())
+    push_name(out, name)
 }
 
 /// Appends a space, and the attribute of a directory.

@@ -1,9 +1,21 @@
-//! The words of requests and replies.
+//! The words of calls, requests and replies.
 
 ghost use Rattle.std.specs.Prelude.{◌≡◌, ◌++◌, codes, IsTrue};
-ghost use Rattle.dht_sched.specs.Kinds.{is_on_file, request_word, refusal_word, reply_word};
+ghost use Rattle.dht_sched.specs.Kinds.{verb_word, is_on_file, request_word, refusal_word, reply_word};
 
+use dht_types::calls::Call;
 use dht_types::lines::{Refusal, ReplyKind, RequestKind};
+
+/// The word of a call.
+pub(crate) fn verb_word<D>(call: &Call<D>) -> &'static str
+    ensures { result.now ≡ verb_word call.now }
+{
+    match call {
+        Call::Lookup(_, _) => "lookup",
+        Call::Create(_, _) => "create",
+        Call::Unlink(_, _) => "unlink",
+    }
+}
 
 /// The word of a kind of request on a file's record.
 fn file_request_word(kind: RequestKind) -> &'static str

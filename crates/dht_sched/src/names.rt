@@ -1,15 +1,16 @@
 //! The spelling of names: a byte that prints stands for itself, and any other is `%` and two digits.
 
 ghost use Rattle.std.specs.Prelude.{◌≡◌, ◌≢◌, ◌<◌, ℕ, false, List, [], ◌∷◌, ◌++◌, ◌/◌, ◌%◌, IfSome, IfNone};
+ghost use Rattle.std.specs.List.{flat_map};
 ghost use Rattle.dht_types.specs.Text.{hex_digit};
 ghost use Rattle.dht_sched.specs.Printing.{Appends};
-ghost use Rattle.dht_sched.specs.Reading.{Reads};
-ghost use Rattle.dht_sched.specs.Schedule.{IsFileName};
-ghost use Rattle.dht_sched.specs.Spelling.{is_plain, spelled_byte, spelled};
+ghost use Rattle.dht_sched.specs.Reading.{Reads, ReadsUnless};
+ghost use Rattle.dht_sched.specs.Spelling.{AreBytes, is_plain, spelled_byte, spelled};
 
+use crate::fault::LineFault;
 use crate::fields::hex_pair;
-use dht_types::names::{LONGEST_NAME, Name};
-use std::alloc::AllocError;
+use dht_types::bytes::Bytes;
+use std::alloc::{AllocError, Global};
 
 /// Whether a byte stands for itself.
 fn is_plain(byte: u8) -> bool
@@ -81,21 +82,31 @@ fn first_byte(text: &[u8]) -> Option<(u8, &[u8])>
     Some((escaped(digits[0], digits[1])?, rest))
 }
 
-/// The name that a word spells.
-pub fn read_name(word: &[u8]) -> Option<Name>
-    ensures { Reads spelled IsFileName word.now result }
+/// The bytes whose spellings a text is, one after another.
+fn read_bytes(alloc: Global, text: &[u8]) -> Result<Bytes, LineFault>
+    ensures { ReadsUnless (flat_map spelled_byte) AreBytes text.now result }
 {
-    let mut bytes = [0u8; LONGEST_NAME];
-    let mut size = 0;
-    let mut rest = word;
+    let mut bytes = Vec::new(alloc);
+    let mut rest = text;
     while !rest.is_empty() {
-        let (byte, after) = first_byte(rest)?;
-        if size == LONGEST_NAME {
-            return None;
-        }
-        bytes[size] = byte;
-        size += 1;
+        let Some((byte, after)) = first_byte(rest) else {
+            return Err(LineFault::Malformed);
+        };
+        bytes.push(byte)?;
         rest = after;
     }
-    Name::new(&bytes[..size]).ok()
+    Ok(Bytes::new(bytes))
+}
+
+/// The name that a word spells, which may be any bytes.
+pub fn read_name(alloc: Global, word: &[u8]) -> Result<Bytes, LineFault>
+    ensures { ReadsUnless spelled AreBytes word.now result }
+{
+    if word == b"%-".as_slice() {
+        return Ok(Bytes::new(Vec::new(alloc)));
+    }
+    if word.is_empty() {
+        return Err(LineFault::Malformed);
+    }
+    read_bytes(alloc, word)
 }

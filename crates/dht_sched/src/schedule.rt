@@ -1,46 +1,21 @@
 //! The lines of schedules, read.
 
 ghost use Rattle.std.specs.Prelude.{◌≡◌, ◌≢◌, ◌≤◌, ◌<◌, ◌^◌, ◌↔◌, ◌∷◌, [], ℕ, List, IsTrue, IfOk, IsErrOf, All, length, map, codes, decimal};
-ghost use Rattle.dht_types.specs.Gfid.{root};
 ghost use Rattle.dht_types.specs.declared.events.Event.{Event};
 ghost use Rattle.dht_sched.specs.Reading.{Reads, ReadsUnless};
 ghost use Rattle.dht_types.specs.Volume.{HasWeight};
-ghost use Rattle.dht_sched.specs.Schedule.{directory_word, schedule_words, schedule_text, IsScheduled, IsReadOf, IsOneLine};
-ghost use Rattle.dht_sched.specs.Spelling.{words_of};
+ghost use Rattle.dht_sched.specs.Schedule.{schedule_words, schedule_text, IsShort, IsScheduled, TakesMemory, IsReadOf, IsOneLine};
+ghost use Rattle.dht_sched.specs.Spelling.{spaced, words_of};
 
+use crate::calls::read_call;
 use crate::fault::LineFault;
-use crate::names::read_name;
 use crate::words::{Words, number};
-use dht_types::calls::Call;
 use dht_types::events::Event;
-use dht_types::identifiers::Gfid;
 use dht_types::volumes::{GREATEST_WEIGHT, MOST_BRICKS, Weights};
 use std::alloc::Global;
 
-/// The directory of a word: the root, `@`.
-fn read_directory(word: &[u8]) -> Option<Gfid>
-    ensures { Reads directory_word (λ d. d ≡ root) word.now result }
-{
-    (word == b"@".as_slice()).then_some(Gfid::ROOT)
-}
-
-/// The event of a line that begins with `call`, by its other words.
-fn read_call(mut words: Words<'_>) -> Option<Event>
-    ensures { Reads schedule_words IsScheduled (codes "call" ∷ words.entry) result }
-{
-    let client = number(words.next()?)?;
-    let verb = words.next()?;
-    let directory = read_directory(words.next()?)?;
-    let name = read_name(words.next()?)?;
-    if words.next().is_some() {
-        return None;
-    }
-    match verb {
-        b"lookup" => Some(Event::Call(client, Call::Lookup(directory, name))),
-        b"create" => Some(Event::Call(client, Call::Create(directory, name))),
-        _ => None,
-    }
-}
+/// The most bytes that a line of a schedule has, its newline included.
+pub const LINE_LIMIT: usize = 16_384;
 
 /// The number that is the only word left.
 fn last_number(mut words: Words<'_>) -> Option<u64>
@@ -141,16 +116,16 @@ fn read_volume(alloc: Global, mut words: Words<'_>) -> Result<Event, LineFault>
 
 /// The event of a line of these words.
 fn read_words(alloc: Global, mut words: Words<'_>) -> Result<Event, LineFault>
+    requires { IsShort (spaced words) }
     ensures reads { ReadsUnless schedule_words IsScheduled words.entry result }
-    ensures memory { IsErrOf result LineFault.OutOfMemory
-        → (rest : List (List ℕ)) × (words.entry ≡ codes "volume" ∷ rest) }
+    ensures memory { IsErrOf result LineFault.OutOfMemory → TakesMemory words.entry }
 {
     let Some(kind) = words.next() else {
         return Err(LineFault::Malformed);
     };
     match kind {
         b"volume" => read_volume(alloc, words),
-        b"call" => read_call(words).ok_or(LineFault::Malformed),
+        b"call" => read_call(alloc, words),
         b"step" => read_step(words).ok_or(LineFault::Malformed),
         b"down" => read_down(words).ok_or(LineFault::Malformed),
         b"up" => read_up(words).ok_or(LineFault::Malformed),
@@ -159,20 +134,22 @@ fn read_words(alloc: Global, mut words: Words<'_>) -> Result<Event, LineFault>
     }
 }
 
-/// The event of a line of a schedule, which is given without its newline. `OutOfMemory` comes only of
-/// a line that begins as a volume's.
+/// The event of a line of a schedule, which is given without its newline. A line that is too long is
+/// no event's. `OutOfMemory` comes only of a line that begins as a volume's or a call's.
 pub fn read_line(alloc: Global, line: &[u8]) -> Result<Event, LineFault>
     ensures scheduled { IfOk result IsScheduled }
     ensures text { IfOk result (λ event. line.now ≡ schedule_text event) }
     ensures malformed { IsErrOf result LineFault.Malformed → (event : Event) → IsScheduled event
         → line.now ≢ schedule_text event }
-    ensures memory { IsErrOf result LineFault.OutOfMemory
-        → (rest : List (List ℕ)) × (words_of line.now ≡ codes "volume" ∷ rest) }
+    ensures memory { IsErrOf result LineFault.OutOfMemory → TakesMemory (words_of line.now) }
 
     // A line is of one event: that is what is read, whatever else is scheduled.
     ensures only { (event : Event) → IsScheduled event → line.now ≡ schedule_text event
         → IsReadOf event result }
 {
+    if line.len() >= LINE_LIMIT {
+        return Err(LineFault::Malformed);
+    }
     read_words(alloc, Words::of(line))
 }
 

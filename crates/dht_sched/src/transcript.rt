@@ -7,10 +7,10 @@ ghost use Rattle.dht_types.specs.declared.lines.DumpLine.{DumpLine};
 ghost use Rattle.dht_types.specs.declared.lines.Line.TheVariants.{Called, Stepped, Waited, Tree, Answered};
 
 use crate::fields::{Field, print_fields};
-use crate::kinds::{reply_word, request_word};
+use crate::kinds::{reply_word, request_word, verb_word};
 use dht_types::calls::{Answer, Call, TreeStep};
 use dht_types::errors::errno_word;
-use dht_types::identifiers::{BrickNo, CallNo, ClientNo};
+use dht_types::identifiers::{BrickNo, CallNo, ClientNo, Gfid};
 use dht_types::lines::{Cause, Line, ReplyKind, RequestKind};
 use std::alloc::AllocError;
 
@@ -22,6 +22,7 @@ fn cause_word(cause: Cause) -> &'static str
         Cause::Dead => "dead",
         Cause::Busy => "busy",
         Cause::Idle => "idle",
+        Cause::Answer => "answer",
     }
 }
 
@@ -31,7 +32,7 @@ fn print_call(
     out: &mut Vec<u8>,
     number: CallNo,
     client: ClientNo,
-    call: &Call,
+    call: &Call<Gfid>,
 ) -> Result<(), AllocError>
     ensures ok { OnOk result (out.new.items
         ≡ out.old.items ++ line_text (Called number client call.now)) }
@@ -39,17 +40,10 @@ fn print_call(
 {
     let number = Field::Number(number.0);
     let client = Field::Number(u64::from(client.0));
-    let (verb, directory, name) = match call {
-        Call::Lookup(directory, name) => ("lookup", directory, name),
-        Call::Create(directory, name) => ("create", directory, name),
-    };
-    let verb = Field::Word(verb);
-    let directory = Field::Gfid(*directory);
-    print_fields(
-        out,
-        "call",
-        &[number, client, verb, directory, Field::Name(name)],
-    )
+    let verb = Field::Word(verb_word(call));
+    let directory = Field::Gfid(call.directory());
+    let name = Field::Name(call.name());
+    print_fields(out, "call", &[number, client, verb, directory, name])
 }
 
 /// A brick served a request.
@@ -104,12 +98,21 @@ fn print_tree(out: &mut Vec<u8>, number: CallNo, step: &TreeStep) -> Result<(), 
     match step {
         TreeStep::AddFile(directory, name, file) => {
             let directory = Field::Gfid(*directory);
-            let name = Field::Name(name);
+            let name = Field::Name(name.as_bytes());
             let file = Field::Gfid(*file);
             print_fields(
                 out,
                 "tree",
                 &[number, Field::Word("add-file"), directory, name, file],
+            )
+        }
+        TreeStep::RemoveFile(directory, name) => {
+            let directory = Field::Gfid(*directory);
+            let name = Field::Name(name.as_bytes());
+            print_fields(
+                out,
+                "tree",
+                &[number, Field::Word("remove-file"), directory, name],
             )
         }
     }
@@ -135,6 +138,9 @@ fn print_answer(
         Answer::File(file) => ("file", file),
         Answer::Dir(dir) => ("dir", dir),
         Answer::Made(file) => ("made", file),
+        Answer::Done => {
+            return print_fields(out, "answer", &[number, client, point, Field::Word("ok")]);
+        }
         Answer::Fault(error) => {
             let error = Field::Word(errno_word(error));
             return print_fields(out, "answer", &[number, client, point, error]);

@@ -1,43 +1,46 @@
--- The steps of the closing.
-use Rattle.std.proofs.Common.{◌≡◌, ℕ, refl, sym, ◌∙◌, ap, subst, arith, [], ◌∷◌}
-use Rattle.std.specs.Prelude.{length}
+-- The steps of a closing.
+use Rattle.std.proofs.Common.{◌≡◌, ◌-◌, Bool, true, false, refl, arith}
+use Rattle.std.specs.Prelude.{suc, ℕ, length, nat_lt, if◌then◌else◌}
+use Rattle.std.proofs.lemmas.Bool.Decides.{nat_tests}
 use Rattle.dht_brick.specs.declared.replies.Reply.{Reply}
-use Rattle.dht_section.proofs.ClaimLaws.{claims_less}
-use Rattle.dht_section.proofs.SceneLaws.{IsQuiet, lock_given_back, deeds_quiet}
-use Rattle.dht_section.specs.Moves.{Guarantee}
+use Rattle.dht_section.proofs.SceneLaws.{IsQuiet, deeds_quiet}
+use Rattle.dht_section.proofs.UnlockingSteps.{unlocking_next, nothing_claimed, still_earned}
+use Rattle.dht_section.specs.Closing.{closing_stage, closing_after, Closes}
 use Rattle.dht_section.specs.MayAnswerLaws.{may_answer_moved}
-use Rattle.dht_section.specs.Scene.{Scene}
-use Rattle.dht_section.specs.Section.{HasPlace, directory_key, name_key, lock_brick, lock_of}
-use Rattle.dht_section.specs.Stages.{Served, GoesOn, EndsIn, answered}
-use Rattle.dht_section.specs.Closing.{closing_stage, ClosingKnows}
+use Rattle.dht_section.specs.Moves.{Guarantee}
+use Rattle.dht_section.specs.Scene.{Scene, MayAnswer}
+use Rattle.dht_section.specs.Section.{IsHeld}
+use Rattle.dht_section.specs.Stages.{GoesOn, EndsIn, Moves, MatchTurn, answered}
+use Rattle.dht_section.specs.declared.closing.Closing.{Closing}
 use Rattle.dht_section.specs.declared.machine.Ask.{Ask}
 use Rattle.dht_section.specs.declared.machine.Finish.{Finish}
-use Rattle.dht_section.specs.declared.closing.Closing.{Closing}
-use Rattle.dht_section.specs.declared.closing.Closing.TheVariants.{UnlockingName, UnlockingDirectory}
-use Rattle.dht_section.specs.declared.section.Location.{Location}
+use Rattle.dht_section.specs.declared.machine.Turn.{Turn}
+use Rattle.dht_section.specs.declared.section.Held.{Held}
 
-pub place_moved : (l : Location) (s t : Scene) (a : Ask) (r : Reply) → HasPlace l s → Guarantee s a r t → HasPlace l t
-place_moved l s t a r h m = record { bricks = ap length m.weights ∙ h.bricks; root = h.root }
+answer_moved : (f : Finish) (s t : Scene) (a : Ask) (r : Reply) → IsQuiet a.request → MayAnswer f s → Guarantee s a r t → MayAnswer f t
+answer_moved f s t a r q h m = may_answer_moved f s t a r (deeds_quiet s t a r q m) m h
 
-knows_moved : (l : Location) (f : Finish) (s t : Scene) (a : Ask) (r : Reply) → IsQuiet a.request → ClosingKnows l f s → Guarantee s a r t → ClosingKnows l f t
-knows_moved l f s t a r q k m = record { place = place_moved l s t a r k.place m; earned = may_answer_moved f s t a r (deeds_quiet s t a r q m) m k.earned }
+abbrev Went : Closing → Reply → Scene → Turn Closing Finish → Type 0
+Went c r t turn = MatchTurn turn (λ n. GoesOn (closing_stage c) (closing_stage n) r t) (λ d. EndsIn (closing_stage c) (answered d) t)
 
-name_step : (l : Location) (f : Finish) (r : Reply) (at : ℕ) (s t : Scene) → Served (closing_stage (UnlockingName l f)) r at s t → GoesOn (closing_stage (UnlockingName l f)) (closing_stage (UnlockingDirectory l f)) r t
-name_step l f r at s t v = record {
-  claims = claims_less (closing_stage (UnlockingName l f)) r at s t (lock_of l (name_key l)) (lock_of l (directory_key l) ∷ []) refl (lock_given_back s t (lock_brick l) (name_key l) r v.moved) v;
-  knows = knows_moved l f s t _ r tt v.is_at.knows v.moved;
-  nearer = λ u. (λ w. omega arith, omega arith);
-}
+either : (c : Closing) (r : Reply) (t : Scene) (b : Bool) (x y : Turn Closing Finish) → (b ≡ true → Went c r t x) → (b ≡ false → Went c r t y) → Went c r t (if b then x else y)
+either c r t true x y h k = h refl
+either c r t false x y h k = k refl
 
-directory_step : (l : Location) (f : Finish) (r : Reply) (at : ℕ) (s t : Scene) → Served (closing_stage (UnlockingDirectory l f)) r at s t → EndsIn (closing_stage (UnlockingDirectory l f)) (answered f) t
-directory_step l f r at s t v = record {
-  claims = claims_less (closing_stage (UnlockingDirectory l f)) r at s t (lock_of l (directory_key l)) [] refl (lock_given_back s t (lock_brick l) (directory_key l) r v.moved) v;
-  earned = (knows_moved l f s t _ r tt v.is_at.knows v.moved).earned;
-}
+pub closing_moves : (c : Closing) (r : Reply) (at : ℕ) → Moves closing_stage answered c r at (closing_after c)
+closing_moves c r at s t v = either c r t (nat_lt 0 c.place) _ _
+    (λ e. unlocking_next c.scope c.place (MayAnswer c.finish) (answer_moved c.finish) (grind (arith, nat_tests, e)) r at s t v)
+    (λ e. record {
+      claims = nothing_claimed c.scope c.place (MayAnswer c.finish) (grind (arith, nat_tests, e)) r at s t v;
+      earned = still_earned c.scope c.place (MayAnswer c.finish) (answer_moved c.finish) r at s t v;
+    })
 
--- the same, as `take` meets them
-pub take_name : (m : Closing) (l : Location) (f : Finish) (r : Reply) (at : ℕ) (s t : Scene) → m ≡ UnlockingName l f → Served (closing_stage m) r at s t → GoesOn (closing_stage m) (closing_stage (UnlockingDirectory l f)) r t
-take_name m l f r at s t e = subst (λ (x : Closing). Served (closing_stage x) r at s t → GoesOn (closing_stage x) (closing_stage (UnlockingDirectory l f)) r t) (sym e) (name_step l f r at s t)
-
-pub take_directory : (m : Closing) (l : Location) (f : Finish) (r : Reply) (at : ℕ) (s t : Scene) → m ≡ UnlockingDirectory l f → Served (closing_stage m) r at s t → EndsIn (closing_stage m) (answered f) t
-take_directory m l f r at s t e = subst (λ (x : Closing). Served (closing_stage x) r at s t → EndsIn (closing_stage x) (answered f) t) (sym e) (directory_step l f r at s t)
+pub closes : (h : Held) (f : Finish) (s : Scene) → IsHeld h s → MayAnswer f s → Closes h f s
+closes h f s k a =
+    let some = k.order.some in
+    let e : suc (length h.scope.keys - 1) ≡ length h.scope.keys = omega arith in
+    record {
+      claims = refl;
+      knows = record { order = k.order; scope = k.fresh.scope; within = omega arith; earned = a };
+      variant = e;
+    }

@@ -1,8 +1,9 @@
--- How a name stands while calls only look for files and make them: nowhere, or as a file on one brick.
+-- What follows of names and files while calls only look for files and make them.
 use Rattle.std.proofs.Common.{◌≡◌, ◌≢◌, ◌<◌, ℕ, Bool, true, false, refl, sym, ap, ◌∙◌, subst, inl, inr, ◌⊎◌}
 use Rattle.std.specs.Prelude.{Option, Some, None, nat_eq, if◌then◌else◌}
 use Rattle.dht_types.proofs.PutLaws.{exact_nat}
-use Rattle.dht_types.specs.Gfid.{home}
+use Rattle.dht_types.specs.Gfid.{Entry, home}
+use Rattle.dht_types.specs.Tree.{Node, IsFile}
 use Rattle.dht_types.specs.declared.identifiers.Gfid.{Gfid}
 use Rattle.dht_types.specs.declared.identifiers.BrickNo.{BrickNo}
 use Rattle.dht_types.specs.declared.stored.Main.TheVariants.{Dir, File}
@@ -10,10 +11,13 @@ use Rattle.dht_types.specs.declared.stored.Standby.{Standby}
 use Rattle.dht_types.specs.declared.stored.Standby.TheVariants.{StandLink, Copy}
 use Rattle.dht_types.specs.declared.stored.Slot.{Slot}
 use Rattle.dht_brick.specs.Contents.{bare}
-use Rattle.dht_section.specs.Disk.{file_in}
+use Rattle.dht_section.specs.Disk.{Disk, file_in, slot_at}
+use Rattle.dht_section.specs.Truth.{plain}
 use Rattle.dht_section.specs.Early.{IsPlain}
-use Rattle.dht_section.specs.Shapes.{NameShape, Bare, Folder, Plain, Marked, Contested, Standing, Copied, Committed, NameFits, here, when_on, core_at}
-use Rattle.dht_section.specs.Views.{core}
+use Rattle.dht_section.specs.Scene.{Scene, Sound}
+use Rattle.dht_section.specs.Names.{NameInvariant}
+use Rattle.dht_section.specs.Shapes.{NameShape, Bare, Folder, Plain, Marked, Contested, Standing, Copied, Committed, NameFits, here, when_on, core_at, node_of}
+use Rattle.dht_section.specs.Views.{core, cores_of}
 
 pub nat_cases : (x y : ℕ) → (x ≡ y) ⊎ (x ≢ y)
 nat_cases x y = by (nat_eq x y) refl
@@ -76,3 +80,41 @@ plain_shape count (Contested b f x g) fits p = absurd (no_mark _ f x (p b fits.0
 plain_shape count (Standing x g) fits p = absurd (no_standby _ (StandLink g) (p x fits) (here_at (Some (StandLink g)) x))
 plain_shape count (Copied b f t) fits p = absurd (no_standby _ (Copy f) (p t fits.1) (here_at (Some (Copy f)) t))
 plain_shape count (Committed t f) fits p = absurd (no_standby _ (Copy f) (p t fits) (here_at (Some (Copy f)) t))
+
+-- nothing stands at the name
+pub record StandsNowhere (d : Disk) (x : Entry) (told : Option Node) : Type 0 where
+  pub node : told ≡ None
+  pub bare : (b : ℕ) → b < d.count → slot_at d b x ≡ bare
+
+-- the name is a file's on one brick, and nothing stands there on any other
+pub record StandsOnce (d : Disk) (x : Entry) (told : Option Node) : Type 0 where
+  pub brick : ℕ
+  pub there : brick < d.count
+  pub file : Gfid
+  pub node : told ≡ Some (IsFile file)
+  pub slot : slot_at d brick x ≡ plain file
+  pub alone : (b : ℕ) → b < d.count → b ≢ brick → slot_at d b x ≡ bare
+
+-- a name whose slots are plain stands so
+pub stands_plainly : (d : Disk) (x : Entry) (told : Option Node) → NameInvariant d.count (cores_of d x) told → ((b : ℕ) → b < d.count → IsPlain (slot_at d b x)) → StandsNowhere d x told ⊎ StandsOnce d x told
+stands_plainly d x told n p = elim (plain_shape d.count n.0 n.1.fits shape_plain) [
+  | inl q ↦ inl (record { node = n.1.node ∙ ap node_of q; bare = λ b l. is_at b l ∙ ap (λ h. core_at h b) q })
+  | inr q ↦ inr (record {
+    brick = q.0;
+    there = subst (NameFits d.count) q.2 n.1.fits;
+    file = q.1;
+    node = n.1.node ∙ ap node_of q.2;
+    slot = is_at q.0 (subst (NameFits d.count) q.2 n.1.fits) ∙ (ap (λ h. core_at h q.0) q.2 ∙ ap (λ m. let s : Slot = record { main = m; standby = None } in s) (here_at (Some (File q.1 None)) q.0));
+    alone = λ b l ne. is_at b l ∙ (ap (λ h. core_at h b) q.2 ∙ ap (λ m. let s : Slot = record { main = m; standby = None } in s) (here_off (Some (File q.1 None)) q.0 b ne));
+  })
+]
+  where
+    is_at : (b : ℕ) → b < d.count → slot_at d b x ≡ core_at n.0 b
+    is_at b l = sym (core_plain (slot_at d b x) (p b l)) ∙ n.1.has b l
+
+    shape_plain : (b : ℕ) → b < d.count → IsPlain (core_at n.0 b)
+    shape_plain b l = subst IsPlain (is_at b l) (p b l)
+
+-- so does each name of a sound scene
+pub name_stands : (s : Scene) (x : Entry) → Sound s → StandsNowhere s.disk x (s.history.tree.names x) ⊎ StandsOnce s.disk x (s.history.tree.names x)
+name_stands s x sound = stands_plainly s.disk x (s.history.tree.names x) (sound.kept.things.names x) (sound.early.plain x)

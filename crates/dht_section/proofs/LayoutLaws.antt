@@ -1,23 +1,31 @@
 -- What was read of a layout names the same holders as the layout.
-use Rattle.std.proofs.Common.{◌≡◌, ◌<◌, ◌+◌, ℕ, Bool, true, false, refl, sym, ◌∙◌, ap, arith, cond}
+use Rattle.std.proofs.Common.{◌≡◌, ◌<◌, ◌+◌, ◌^◌, ℕ, Bool, true, false, refl, sym, ◌∙◌, ap, arith, cond, inl, inr}
 use Rattle.std.specs.Prelude.{zero, suc, Option, Some, None, List, [], ◌∷◌, ◌++◌, length, not, slice_index_or, nat_lt, nat_le, ◌&&◌, if◌then◌else◌}
 use Rattle.std.proofs.Common.{length-append}
 use Rattle.std.specs.List.{position_or_len}
+use Rattle.std.proofs.lemmas.Bool.{false_from_ne_true}
 use Rattle.std.proofs.lemmas.Bool.Decides.{nat_tests}
+use Rattle.std.proofs.lemmas.List.Quantifiers.{position-Some}
 use Rattle.std.proofs.Math.ListN.{get_or-append}
 use Rattle.std.proofs.Math.Seq.{get_or-append_seam}
-use Rattle.dht_types.specs.Gfid.{Entry}
+use Rattle.dht_types.specs.Gfid.{Entry, root}
+use Rattle.dht_types.specs.Volume.{HasWeight}
 use Rattle.dht_types.specs.declared.identifiers.Gfid.{Gfid}
+use Rattle.dht_types.specs.declared.stored.DirRecord.{DirRecord}
 use Rattle.dht_hash.specs.DaviesMeyer.{dm}
+use Rattle.dht_hash.proofs.DaviesMeyerLaws.{dm_below}
 use Rattle.dht_xattr.specs.Layout.{holder}
+use Rattle.dht_xattr.specs.Plan.{planned}
 use Rattle.dht_xattr.specs.Range.{contains}
 use Rattle.dht_xattr.specs.declared.range.Range.{Range}
-use Rattle.dht_section.specs.Disk.{Disk, range_at, ranges_below, layout_of, holder_of}
-use Rattle.dht_section.specs.Rely.{bounds}
+use Rattle.dht_xattr.proofs.LayoutLaws.{count_two, first_is, holder_within}
+use Rattle.dht_xattr.proofs.PlanLaws.{planned_length, planned_once}
+use Rattle.dht_section.specs.Disk.{Disk, dir_at, range_of, range_at, ranges_below, layout_of, holder_of}
+use Rattle.dht_section.specs.Looks.{mark_at}
+use Rattle.dht_section.specs.Rely.{bounds, AllPlanned}
 use Rattle.dht_section.specs.Scene.{Scene, Sound}
-use Rattle.dht_section.specs.Section.{entry_at, held_holder, Reads, IsHeld}
-use Rattle.dht_section.specs.SectionLaws.{bricks_are}
-use Rattle.dht_section.specs.declared.section.Held.{Held}
+use Rattle.dht_section.specs.Section.{HasCopy, ReadAt, Reads}
+use Rattle.dht_section.specs.declared.looks.Sight.{Sight}
 
 -- which hashes are in a range hangs on its bounds alone
 within : Option (ℕ × ℕ) → ℕ → Bool
@@ -28,6 +36,9 @@ contains_by : (r : Option Range) (hash : ℕ) → contains r hash ≡ within (bo
 unfolding within
 contains_by None hash = refl
 contains_by (Some r) hash = refl
+
+same_contained : (x y : Option Range) (hash : ℕ) → bounds x ≡ bounds y → contains x hash ≡ contains y hash
+same_contained x y hash e = contains_by x hash ∙ (ap (λ o. within o hash) e ∙ sym (contains_by y hash))
 
 -- the first place where a test passes, in two lists
 position_same : (p : Option Range → Bool) (xs ys : List (Option Range)) → length xs ≡ length ys → ((i : ℕ) → i < length xs → p (slice_index_or xs i None) ≡ p (slice_index_or ys i None)) → position_or_len p xs ≡ position_or_len p ys
@@ -42,7 +53,7 @@ position_same p (x ∷ xs) (y ∷ ys) l h = step (p x) (p y) (h 0 (omega arith))
 holder_same : (hash : ℕ) (xs ys : List (Option Range)) → length xs ≡ length ys → ((i : ℕ) → i < length xs → bounds (slice_index_or xs i None) ≡ bounds (slice_index_or ys i None)) → holder xs hash ≡ holder ys hash
 holder_same hash xs ys l h =
     let p : Option Range → Bool = λ r. contains r hash in
-    let e = position_same p xs ys l (λ i k. contains_by (slice_index_or xs i None) hash ∙ (ap (λ o. within o hash) (h i k) ∙ sym (contains_by (slice_index_or ys i None) hash))) in
+    let e = position_same p xs ys l (λ i k. same_contained (slice_index_or xs i None) (slice_index_or ys i None) hash (h i k)) in
     ap (λ (n : ℕ). if nat_lt n (length xs) then Some n else None) e ∙ ap (λ (n : ℕ). if nat_lt (position_or_len p ys) n then Some (position_or_len p ys) else None) l
 
 -- the ranges of the first bricks
@@ -67,14 +78,72 @@ below_at d g (suc n) i l = by (λ k. below_at d g n i k) (nat_lt i n) refl
         ap (λ (j : ℕ). slice_index_or (ranges_below d g n ++ range_at d g n ∷ []) j None) (sym k ∙ sym w)
         ∙ (get_or-append_seam (ranges_below d g n) (range_at d g n) [] None ∙ ap (range_at d g) k)
 
--- the holder by what was read is the holder
-pub holder_read : (e : Entry) (ranges : List (Option Range)) (s : Scene) → length ranges ≡ s.disk.count → Reads e.0 ranges s → holder ranges (dm e.1) ≡ holder_of s.disk e
-holder_read e ranges s l h =
-    let w = below_length s.disk e.0 s.disk.count in
-    holder_same (dm e.1) ranges (layout_of s.disk e.0) (omega arith)
-    (λ i k. h.same i k ∙ ap bounds (sym (below_at s.disk e.0 s.disk.count i (omega arith))))
+-- ---- a directory of which each brick has a copy
 
-pub held_holder_is : (h : Held) (s : Scene) → Sound s → IsHeld h s → held_holder h ≡ holder_of s.disk (entry_at h.location)
-held_holder_is h s sound k =
-    let bricks = bricks_are h.location s sound k.fresh.place in
-    holder_read (entry_at h.location) h.layout s (k.whole ∙ sym bricks) k.read
+-- where the directory is the root, each brick showed its copy
+root_shown : (g : Gfid) (mark : Bool) (read : Option Range) (b : ℕ) (s : Scene) → g ≡ root → ReadAt g mark read b s → mark ≡ true
+root_shown g true read b s e h = refl
+root_shown g false read b s e h = absurd (h.below e)
+
+root_same : (g : Gfid) (mark : Bool) (read : Option Range) (b : ℕ) (s : Scene) → g ≡ root → ReadAt g mark read b s → bounds read ≡ bounds (range_at s.disk g b)
+root_same g true read b s e h = h.same
+root_same g false read b s e h = absurd (h.below e)
+
+pub root_copied : (x : Sight) (b : ℕ) (g : Gfid) (s : Scene) → g ≡ root → b < length x.layout → Reads g x s → mark_at x.copies b ≡ true
+root_copied x b g s e l h = root_shown g (mark_at x.copies b) _ b s e (h b l)
+
+-- so the holder by what was read is the holder
+pub root_holder : (e : Entry) (x : Sight) (s : Scene) → e.0 ≡ root → length x.layout ≡ s.disk.count → Reads e.0 x s → holder x.layout (dm e.1) ≡ holder_of s.disk e
+root_holder e x s rooted l h =
+    let w = below_length s.disk e.0 s.disk.count in
+    holder_same (dm e.1) x.layout (layout_of s.disk e.0) (omega arith)
+    (λ i k. root_same e.0 (mark_at x.copies i) _ i s rooted (h i k) ∙ ap bounds (sym (below_at s.disk e.0 s.disk.count i (omega arith))))
+
+-- ---- any directory
+
+-- a range that was read has a hash exactly where the brick's has it now
+has_read : (g : Gfid) (mark : Bool) (read : Option Range) (b : ℕ) (hash : ℕ) (s : Scene) → ReadAt g mark read b s → contains read hash ≡ true → HasCopy g read b s × (contains (range_at s.disk g b) hash ≡ true)
+has_read g true read b hash s h e = (h, sym (same_contained read (range_at s.disk g b) hash h.same) ∙ e)
+has_read g false read b hash s h e = absurd (let z : false ≡ true = ap (λ o. contains o hash) (sym h.nothing) ∙ e in cc)
+
+-- each hash is in one planned range
+planned_one : (weights : List ℕ) (g : Gfid) (hash i j : ℕ) → HasWeight weights → hash < 2 ^ 32 → i < j → j < length weights → contains (slice_index_or (planned weights g) i None) hash ≡ true → contains (slice_index_or (planned weights g) j None) hash ≡ true → ⊥
+planned_one weights g hash i j heavy below l k at_i at_j =
+    let once = planned_once weights g hash heavy below in
+    let size = planned_length weights g in
+    let two = count_two (λ range. contains range hash) (planned weights g) i j None l (omega arith) at_i at_j in
+    omega arith
+
+-- where all ranges are planned, one that has a hash is the planned one
+planned_has : (s : Scene) (g : Gfid) (b hash : ℕ) (o : Option DirRecord) → dir_at s.disk b g ≡ o → b < s.disk.count → AllPlanned s.disk s.history.weights g → contains (range_at s.disk g b) hash ≡ true → contains (slice_index_or (planned s.history.weights g) b None) hash ≡ true
+unfolding within
+planned_has s g b hash None q l h e = absurd (let z : false ≡ true = ap (λ o. contains (range_of o) hash) (sym q) ∙ e in cc)
+planned_has s g b hash (Some r) q l h e =
+    let here : contains (range_of (Some r)) hash ≡ true = ap (λ o. contains (range_of o) hash) (sym q) ∙ e in
+    elim (h b r l q) [
+      | inl z ↦ absurd (let k : false ≡ true = ap (λ o. within o hash) (sym z) ∙ (sym (contains_by (range_of (Some r)) hash) ∙ here) in cc)
+      | inr z ↦ sym (same_contained (range_of (Some r)) (slice_index_or (planned s.history.weights g) b None) hash z) ∙ here
+    ]
+
+-- a brick before the one that holds a name, by what was read, does not hold it
+not_before : (e : Entry) (mark : Bool) (read : Option Range) (i b : ℕ) (s : Scene) → Sound s → i < b → b < s.disk.count → contains (range_at s.disk e.0 b) (dm e.1) ≡ true → contains read (dm e.1) ≡ false → ReadAt e.0 mark read i s → contains (range_at s.disk e.0 i) (dm e.1) ≡ false
+not_before e true read i b s sound l k has fails h = sym (same_contained read (range_at s.disk e.0 i) (dm e.1) h.same) ∙ fails
+not_before e false read i b s sound l k has fails h = elim h.still [
+  | inl none ↦ ap (λ o. contains (range_of o) (dm e.1)) none
+  | inr all ↦ false_from_ne_true (contains (range_at s.disk e.0 i) (dm e.1)) (λ t. (let counted = sound.kept.counted in
+      planned_one s.history.weights e.0 (dm e.1) i b sound.kept.heavy (dm_below e.1) l (omega arith)
+      (planned_has s e.0 i (dm e.1) (dir_at s.disk i e.0) refl (omega arith) all t)
+      (planned_has s e.0 b (dm e.1) (dir_at s.disk b e.0) refl k all has)))
+]
+
+-- the brick that holds a name by what was read holds it
+pub read_holder : (e : Entry) (x : Sight) (b : ℕ) (s : Scene) → Sound s → length x.layout ≡ s.disk.count → Reads e.0 x s → holder x.layout (dm e.1) ≡ Some b → holder_of s.disk e ≡ Some b
+read_holder e x b s sound whole h found =
+    let l = holder_within x.layout (dm e.1) b found in
+    let all = below_length s.disk e.0 s.disk.count in
+    let first = position-Some (λ range. contains range (dm e.1)) x.layout b None found in
+    let here = has_read e.0 (mark_at x.copies b) _ b (dm e.1) s (h b l) first.1 in
+    first_is (λ range. contains range (dm e.1)) (layout_of s.disk e.0) b None (omega arith)
+    (ap (λ o. contains o (dm e.1)) (below_at s.disk e.0 s.disk.count b (omega arith)) ∙ here.1)
+    (λ i k. ap (λ o. contains o (dm e.1)) (below_at s.disk e.0 s.disk.count i (omega arith))
+    ∙ not_before e (mark_at x.copies i) _ i b s sound k (omega arith) here.1 (first.2 i k) (h i (omega arith)))

@@ -35,10 +35,9 @@ use Rattle.dht_brick.specs.declared.replies.Reply.{Reply}
 use Rattle.dht_brick.specs.declared.replies.Reply.TheVariants.{Ok as Carried, Refused as Declined, Wait, Down, Failed, NoMemory}
 use Rattle.dht_section.specs.declared.machine.Ask.{Ask}
 use Rattle.dht_section.specs.Disk.{lock_at, slot_at, dir_at}
-use Rattle.dht_section.specs.Moves.{Guarantee, step_of, tree_by, deeds_by, outcome_of, seen_of}
+use Rattle.dht_section.specs.Moves.{Guarantee, name_step, step_of, tree_by, deeds_by, outcome_of, seen_of}
 use Rattle.dht_section.specs.Replies.{fault_of}
-use Rattle.dht_section.specs.Scene.{Scene, NameStands, MayAnswer}
-use Rattle.dht_section.specs.Section.{fault_finish}
+use Rattle.dht_section.specs.Scene.{Scene, NameStands, MayAnswer, fault_finish}
 use Rattle.dht_section.specs.Shapes.{NameShape}
 use Rattle.dht_section.specs.Stages.{is_wait}
 use Rattle.dht_section.specs.Views.{core}
@@ -144,6 +143,15 @@ carried_sound (Wait holder) e = refl
 carried_sound Down e = absurd (let k : false ≡ true = e in cc)
 carried_sound Failed e = absurd (let k : false ≡ true = e in cc)
 carried_sound NoMemory e = absurd (let k : false ≡ true = e in cc)
+
+-- and the step of the tree was done that the request stands for
+pub carried_step : (q : NameRequest) (r : Reply) → is_carried (reply_kind r) ≡ true → step_of (OnNames q) r ≡ name_step q
+carried_step q (Carried given) e = refl
+carried_step q (Declined why) e = absurd (let k : false ≡ true = e in cc)
+carried_step q (Wait holder) e = absurd (let k : false ≡ true = e in cc)
+carried_step q Down e = absurd (let k : false ≡ true = e in cc)
+carried_step q Failed e = absurd (let k : false ≡ true = e in cc)
+carried_step q NoMemory e = absurd (let k : false ≡ true = e in cc)
 
 -- a call whose request was not served may answer that
 true_or : (b : Bool) → (b || true) ≡ true

@@ -18,7 +18,7 @@ use Rattle.dht_section.proofs.SceneLaws.{real_is, served_as_seen}
 use Rattle.dht_section.specs.Disk.{Disk, slot_at, file_at, dir_at, holders}
 use Rattle.dht_section.specs.Moves.{Guarantee, step_of, tree_by, deeds_by}
 use Rattle.dht_section.specs.Names.{StandsAs}
-use Rattle.dht_section.specs.Rely.{Rely, SameCall, IsFileUsed, outline}
+use Rattle.dht_section.specs.Rely.{Rely, SameCall, IsFileUsed, IsNameless, outline}
 use Rattle.dht_section.specs.Replies.{fault_of}
 use Rattle.dht_section.specs.Scene.{Scene}
 use Rattle.dht_section.specs.Shapes.{NameShape, Bare, Folder, Plain, Marked, Contested, Standing, Copied, Committed, Grows}
@@ -67,6 +67,7 @@ unchanged_is_rely s t x = record {
   known = λ g h e. ap (λ (p : Tree). p.dirs g) x.tree ∙ e;
   used = λ f h. subst (λ (d : Disk). IsFileUsed d t.history.tree f) (sym x.disk) (subst (λ (p : Tree). IsFileUsed s.disk p f) (sym x.tree) h);
   sealed = λ f h. ap (λ (d : Disk). (view_of d f).sealed) x.disk ∙ h;
+  nameless = λ f h. subst (λ (d : Disk). IsNameless d t.history.tree f) (sym x.disk) (subst (λ (p : Tree). IsNameless s.disk p f) (sym x.tree) h);
   later = x.later;
   past = x.past;
 }

@@ -1,46 +1,31 @@
 -- What a closing asks, claims and knows.
-use Rattle.std.specs.Prelude.{◌≡◌}
-use Rattle.dht_types.specs.declared.locks.Key.{Key}
-use Rattle.dht_brick.specs.declared.requests.Request.TheVariants.{Unlock}
-use Rattle.dht_section.specs.declared.machine.Ask.{Ask}
+use Rattle.std.specs.Prelude.{◌≡◌, ◌-◌, nat_lt, if◌then◌else◌, length}
 use Rattle.dht_section.specs.declared.machine.Finish.{Finish}
 use Rattle.dht_section.specs.declared.machine.Turn.{Turn}
+use Rattle.dht_section.specs.declared.machine.Turn.TheVariants.{Go, Done}
 use Rattle.dht_section.specs.Scene.{Scene, MayAnswer}
-use Rattle.dht_section.specs.Stages.{Stage, MatchTurn}
-use Rattle.dht_section.specs.Section.{HasPlace, lock_brick, directory_key, name_key, directory_claimed, both_claimed}
-use Rattle.dht_section.specs.declared.section.Location.{Location}
+use Rattle.dht_section.specs.Stages.{Stage}
+use Rattle.dht_section.specs.Section.{all_claimed, last_lock, unlocking_stage}
 use Rattle.dht_section.specs.declared.closing.Closing.{Closing}
-use Rattle.dht_section.specs.declared.closing.Closing.TheVariants.{UnlockingName, UnlockingDirectory}
+use Rattle.dht_section.specs.declared.section.Held.{Held}
 
-abbrev pub unlock_ask : Location → Key → Ask
-unlock_ask l key = record { brick = record { 0 = lock_brick l }; request = Unlock key }
-
--- the answer is right already
-pub record ClosingKnows (l : Location) (f : Finish) (s : Scene) : Type 0 where
-  pub place : HasPlace l s
-  pub earned : MayAnswer f s
-
--- where a closing is between its requests: it claims what is still to be given back
+-- it gives back the locks up to this one, and the answer is right already
 abbrev pub closing_stage : Closing → Stage
-closing_stage (UnlockingName l f) = record {
-  asks = unlock_ask l (name_key l);
-  claims = both_claimed l;
-  variant = 2;
-  knows = λ s. ClosingKnows l f s;
-}
-closing_stage (UnlockingDirectory l f) = record {
-  asks = unlock_ask l (directory_key l);
-  claims = directory_claimed l;
-  variant = 1;
-  knows = λ s. ClosingKnows l f s;
-}
+closing_stage c = unlocking_stage c.scope c.place (MayAnswer c.finish)
 
--- what the call will answer
-abbrev pub closing_finish : Closing → Finish
-closing_finish (UnlockingName l f) = f
-closing_finish (UnlockingDirectory l f) = f
+-- the closing of a section that is held
+abbrev pub closing_of : Held → Finish → Closing
+closing_of h f = record { scope = h.scope; place = last_lock h.scope; finish = f }
 
--- it goes on with the same answer, or gives it
-abbrev pub KeepsFinish : Closing → Turn Closing Finish → Type 0
-KeepsFinish m turn =
-    MatchTurn turn (λ n. closing_finish n ≡ closing_finish m) (λ f. f ≡ closing_finish m)
+-- it goes on with the next lock, or gives its answer
+abbrev pub closing_after : Closing → Turn Closing Finish
+closing_after c =
+    if nat_lt 0 c.place
+    then Go (record { scope = c.scope; place = c.place - 1; finish = c.finish })
+    else Done c.finish
+
+-- the closing begins where the section is held and the call may answer so
+pub record Closes (h : Held) (f : Finish) (s : Scene) : Type 0 where
+  pub claims : (closing_stage (closing_of h f)).claims ≡ all_claimed h.scope
+  pub knows : (closing_stage (closing_of h f)).knows s
+  pub variant : (closing_stage (closing_of h f)).variant ≡ length h.scope.keys

@@ -1,15 +1,17 @@
--- The laws of the closing as a machine.
-use Rattle.dht_section.specs.MayAnswerLaws.{may_answer_stable}
-use Rattle.dht_section.specs.Stages.{MaySend, IsStable}
-use Rattle.dht_section.specs.SectionLaws.{lock_brick_is, lock_brick_within, place_stable}
+-- The laws of a closing as a machine.
 use Rattle.dht_section.specs.Closing.{closing_stage}
+use Rattle.dht_section.specs.MayAnswerLaws.{may_answer_stable}
+use Rattle.dht_section.specs.Scene.{MayAnswer}
+use Rattle.dht_section.specs.SectionLaws.{lock_brick_within, stands_on, unlocking_stable}
+use Rattle.dht_section.specs.Stages.{MaySend, IsStable}
+use Rattle.dht_section.specs.Want.{key_at}
 use Rattle.dht_section.specs.declared.closing.Closing.{Closing}
-use Rattle.dht_section.specs.declared.closing.Closing.TheVariants.{UnlockingName, UnlockingDirectory}
 
-pub closing_permitted : (m : Closing) → MaySend (closing_stage m)
-closing_permitted (UnlockingName l f) s sound h = record { there = lock_brick_within l s sound h.knows.place; may = lock_brick_is l s sound h.knows.place }
-closing_permitted (UnlockingDirectory l f) s sound h = record { there = lock_brick_within l s sound h.knows.place; may = lock_brick_is l s sound h.knows.place }
+pub closing_permitted : (c : Closing) → MaySend (closing_stage c)
+closing_permitted c s sound h = record {
+  there = lock_brick_within c.scope (key_at c.scope c.place) s sound h.knows.scope;
+  may = stands_on c.scope (key_at c.scope c.place) s sound h.knows.scope (h.knows.order.kinds c.place h.knows.within);
+}
 
-pub closing_stable : (m : Closing) → IsStable (closing_stage m)
-closing_stable (UnlockingName l f) s t h o = record { place = place_stable l s t h.place o; earned = may_answer_stable f s t h.earned o }
-closing_stable (UnlockingDirectory l f) s t h o = record { place = place_stable l s t h.place o; earned = may_answer_stable f s t h.earned o }
+pub closing_stable : (c : Closing) → IsStable (closing_stage c)
+closing_stable c = unlocking_stable c.scope c.place (MayAnswer c.finish) (may_answer_stable c.finish)

@@ -15,7 +15,8 @@ use Rattle.dht_brick.specs.declared.requests.FileRequest.TheVariants.{Read, Writ
 use Rattle.dht_section.specs.Disk.{file_at}
 use Rattle.dht_section.specs.Acts.{TakesFile}
 use Rattle.dht_section.specs.Claims.{places_of}
-use Rattle.dht_section.specs.Files.{Agree, NoLink, NoCopy}
+use Rattle.dht_section.specs.Files.{Agree}
+use Rattle.dht_section.specs.Rely.{IsNameless}
 use Rattle.dht_section.specs.Scene.{Scene, HoldsName, HoldsBytes, NameStands, FileStands}
 use Rattle.dht_section.specs.Shapes.{NameShape, FileShape, Copying, Moved}
 use Rattle.dht_section.specs.Views.{view_of}
@@ -88,7 +89,5 @@ MayFile s b (MakeStandby f d n source hop) =
 MayFile s b (Promote f hop) =
     (c : StandbyRecord) → file_at s.disk b f ≡ Some (stored.Standby c) → hop ≡ c.hop
     → FileStands s f (Moved b c)
-MayFile s b (Drop f) =
-    ((view_of s.disk f).sealed ≡ true)
-    × NoLink s.disk.count (view_of s.disk f) × NoCopy s.disk.count (view_of s.disk f)
+MayFile s b (Drop f) = ((view_of s.disk f).sealed ≡ true) × IsNameless s.disk s.history.tree f
 MayFile s b q = Steps s b q

@@ -19,7 +19,17 @@ pub mod Stages
 pub mod Begins
 pub mod Replies
 pub mod MayAnswerLaws
+pub mod Want
+pub mod Looks
 pub mod Section
 pub mod SectionLaws
 pub mod Closing
 pub mod ClosingLaws
+pub mod Ended
+pub mod Faults
+pub mod Again
+pub mod Parts
+pub mod PartLaws
+pub mod Location
+pub mod Reap
+pub mod ReapLaws

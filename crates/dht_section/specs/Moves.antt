@@ -4,14 +4,14 @@ use Rattle.dht_types.specs.Tree.{Tree, applied}
 use Rattle.dht_types.specs.Volume.{replay_names}
 use Rattle.dht_types.specs.History.{PendingCall, Deeds, deeds_after, is_carried, is_down, is_failed}
 use Rattle.dht_types.specs.declared.calls.TreeStep.{TreeStep}
-use Rattle.dht_types.specs.declared.calls.TreeStep.TheVariants.{AddFile}
+use Rattle.dht_types.specs.declared.calls.TreeStep.TheVariants.{AddFile, RemoveFile}
 use Rattle.dht_brick.specs.Contents.{Contents}
 use Rattle.dht_brick.specs.Kinds.{reply_kind}
 use Rattle.dht_brick.specs.Bricks.{ServesOrFails}
 use Rattle.dht_brick.specs.Outcome.{Outcome}
 use Rattle.dht_brick.specs.Rows.{row}
 use Rattle.dht_brick.specs.declared.requests.NameRequest.{NameRequest}
-use Rattle.dht_brick.specs.declared.requests.NameRequest.TheVariants.{Create}
+use Rattle.dht_brick.specs.declared.requests.NameRequest.TheVariants.{Create, Unlink}
 use Rattle.dht_brick.specs.declared.requests.Request.{Request}
 use Rattle.dht_brick.specs.declared.requests.Request.TheVariants.{OnNames, Unlock}
 use Rattle.dht_brick.specs.declared.replies.Reply.{Reply}
@@ -23,6 +23,7 @@ use Rattle.dht_section.specs.declared.machine.Ask.{Ask}
 -- the step of the tree that a carried-out request stands for
 abbrev pub name_step : NameRequest → Option TreeStep
 name_step (Create d n f) = Some (AddFile d n f)
+name_step (Unlink d n f) = Some (RemoveFile d n)
 name_step q = None
 
 abbrev pub request_step : Request → Option TreeStep

@@ -7,10 +7,11 @@ use Rattle.dht_types.specs.declared.locks.Key.TheVariants.{Rebalance, Dir, Entry
 use Rattle.dht_brick.specs.Named.{name_named}
 use Rattle.dht_section.specs.declared.machine.Ask.{Ask}
 use Rattle.dht_brick.specs.declared.requests.NameRequest.{NameRequest}
-use Rattle.dht_brick.specs.declared.requests.NameRequest.TheVariants.{Look, Page, Dirinfo, SetLayout, MakeDir, DropDir, Create, Link, LinkOver, StandLink, Orphans}
+use Rattle.dht_brick.specs.declared.requests.NameRequest.TheVariants.{Look, Page, Dirinfo, SetLayout, MakeDir, DropDir, Create, Unlink, Link, LinkOver, StandLink, Orphans}
 use Rattle.dht_brick.specs.declared.requests.FileRequest.{FileRequest}
+use Rattle.dht_brick.specs.declared.requests.FileRequest.TheVariants.{Drop}
 use Rattle.dht_brick.specs.declared.requests.Request.{Request}
-use Rattle.dht_brick.specs.declared.requests.Request.TheVariants.{Lock, Unlock, OnNames, OnFile}
+use Rattle.dht_brick.specs.declared.requests.Request.TheVariants.{Lock, Unlock, Seal, OnNames, OnFile}
 use Rattle.dht_types.specs.declared.names.EntryKey.{EntryKey}
 use Rattle.dht_types.specs.declared.stored.DirRecord.{DirRecord}
 use Rattle.dht_xattr.specs.Plan.{planned}
@@ -22,6 +23,7 @@ use Rattle.dht_section.specs.Acts.{Takes}
 use Rattle.dht_section.specs.Claims.{AsksFirst}
 use Rattle.dht_section.specs.FilePermits.{MayFile}
 use Rattle.dht_section.specs.Invariant.{Used}
+use Rattle.dht_section.specs.Rely.{IsNameless}
 use Rattle.dht_section.specs.Scene.{Scene, my_claim, HoldsAlone, HoldsName, NameStands, WantsAll}
 use Rattle.dht_section.specs.Shapes.{NameShape, Plain}
 
@@ -87,9 +89,11 @@ abbrev pub IsBuilt : NameRequest → Type 0
 IsBuilt (Look d n) = Unit {0}
 IsBuilt (Dirinfo d) = Unit {0}
 IsBuilt (Create d n f) = Unit {0}
+IsBuilt (Unlink d n f) = Unit {0}
 IsBuilt q = ⊥
 
 abbrev pub IsFileBuilt : FileRequest → Type 0
+IsFileBuilt (Drop f) = Unit {0}
 IsFileBuilt q = ⊥
 
 -- the brick of a lock
@@ -104,6 +108,8 @@ May s b (Lock key mode) = StandsOn s.disk.count b key × AsksFirst (my_claim s) 
 May s b (Unlock key) = StandsOn s.disk.count b key
 May s b (OnNames q) = IsBuilt q × MayName s b q
 May s b (OnFile q) = IsFileBuilt q × MayFile s b q
+-- a file is sealed at its anchor, and has no name left
+May s b (Seal f) = (b ≡ anchor f s.disk.count) × IsNameless s.disk s.history.tree f
 May s b q = ⊥
 
 pub record Permitted (s : Scene) (a : Ask) : Type 0 where

@@ -12,6 +12,7 @@ use Rattle.dht_types.specs.declared.stored.Record.TheVariants as stored
 use Rattle.dht_xattr.specs.Plan.{planned}
 use Rattle.dht_xattr.specs.declared.range.Range.{Range}
 use Rattle.dht_section.specs.Disk.{Disk, slot_at, file_at, dir_at, range_of, holders}
+use Rattle.dht_section.specs.Files.{NoLink, NoCopy}
 use Rattle.dht_section.specs.Scene.{Scene, HoldsDir, Guards, NameStands}
 use Rattle.dht_section.specs.Shapes.{NameShape, Grows}
 use Rattle.dht_section.specs.Views.{core, links_to, view_of}
@@ -65,6 +66,12 @@ pub data IsFileUsed (d : Disk) (t : Tree) (f : Gfid) : Type 0 where
   ByRecord : (b : ℕ) (r : Record) → b < d.count → file_at d b f ≡ Some r → IsFileUsed d t f
   BySeal : (view_of d f).sealed ≡ true → IsFileUsed d t f
 
+-- the file has no name on any brick, and gets none: it is no new one
+pub record IsNameless (d : Disk) (t : Tree) (f : Gfid) : Type 0 where
+  pub used : IsFileUsed d t f
+  pub links : NoLink d.count (view_of d f)
+  pub copies : NoCopy d.count (view_of d f)
+
 pub record Rely (s t : Scene) : Type 0 where
   pub who : t.who ≡ s.who
   pub mine : SameCall s.mine t.mine
@@ -94,5 +101,7 @@ pub record Rely (s t : Scene) : Type 0 where
   -- what needs no lock
   pub used : (f : Gfid) → IsFileUsed s.disk s.history.tree f → IsFileUsed t.disk t.history.tree f
   pub sealed : (f : Gfid) → (view_of s.disk f).sealed ≡ true → (view_of t.disk f).sealed ≡ true
+  pub nameless : (f : Gfid)
+      → IsNameless s.disk s.history.tree f → IsNameless t.disk t.history.tree f
   pub later : s.history.size ≤ t.history.size
   pub past : (j : ℕ) → j ≤ s.history.size → t.history.past j ≡ s.history.past j

@@ -3,10 +3,12 @@
 use Rattle.std.specs.Prelude.{ℕ, ◌≤◌, ◌≡◌, ◌⊎◌, true, Option, Some, None, is_some}
 use Rattle.dht_types.specs.Gfid.{Entry}
 use Rattle.dht_types.specs.Tree.{Fits}
-use Rattle.dht_types.specs.History.{History, PendingCall, Answers, IsNext, IsOwn, made_in}
+use Rattle.dht_types.specs.History.{History, PendingCall, Answers, IsNext, MakesOwn}
 use Rattle.dht_types.specs.declared.identifiers.Gfid.{Gfid}
 use Rattle.dht_types.specs.declared.identifiers.ClientNo.{ClientNo}
+use Rattle.dht_types.specs.declared.calls.Answer.TheVariants.{Fault}
 use Rattle.dht_types.specs.declared.calls.TreeStep.{TreeStep}
+use Rattle.dht_types.specs.declared.errors.Errno.{Errno}
 use Rattle.dht_types.specs.declared.locks.Key.TheVariants.{Dir, Entry as Name, Content}
 use Rattle.dht_types.specs.declared.locks.Mode.TheVariants.{Exclusive}
 use Rattle.dht_section.specs.Claims.{Claim}
@@ -69,7 +71,7 @@ FileStands s f h = RecordsAs s.disk.count (view_of s.disk f).records h
 pub record Wants (s : Scene) (step : TreeStep) : Type 0 where
   pub next : IsNext s.history.tree s.mine.call s.mine.deeds step
   pub fits : Fits step s.history.tree
-  pub own : IsOwn s.history.run s.who s.mine.number (made_in step)
+  pub own : MakesOwn s.history.run s.who s.mine.number step
 
 abbrev pub WantsAll : Scene → Option TreeStep → Type 0
 WantsAll s None = Unit {0}
@@ -78,3 +80,7 @@ WantsAll s (Some step) = Wants s step
 -- the call may answer so now
 abbrev pub MayAnswer : Finish → Scene → Type 0
 MayAnswer f s = Answers s.history s.mine f.at f.answer
+
+-- a call that is stopped answers this error, which has no point
+abbrev pub fault_finish : Errno → Finish
+fault_finish e = record { answer = Fault e; at = None }

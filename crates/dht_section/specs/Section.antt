@@ -1,97 +1,91 @@
 -- What a section asks, claims and knows, and how it ends.
-use Rattle.std.specs.Prelude.{ℕ, ◌+◌, ◌-◌, ◌<◌, ◌≤◌, ◌≡◌, ◌==◌, ◌&&◌, nat_le, nat_lt, Bool, true, not, if◌then◌else◌, is_some, Option, Some, None, List, [], ◌∷◌, ◌++◌, length, slice_index_or}
-use Rattle.dht_types.specs.Gfid.{Entry, root, anchor}
+use Rattle.std.specs.Prelude.{ℕ, suc, ◌+◌, ◌-◌, ◌<◌, ◌≤◌, ◌≡◌, ◌≢◌, ◌⊎◌, ◌&&◌, nat_eq, nat_lt, Bool, true, false, if◌then◌else◌, is_some, Option, Some, None, List, length, Contains, replicate, ◌∷◌, [], ◌==◌, slice_index_or}
+use Rattle.dht_types.specs.Gfid.{Entry, root, home, anchor}
 use Rattle.dht_types.specs.History.{is_carried}
-use Rattle.dht_types.specs.declared.calls.Answer.TheVariants.{Fault}
 use Rattle.dht_types.specs.declared.errors.Errno.{Errno}
 use Rattle.dht_types.specs.declared.identifiers.BrickNo.{BrickNo}
 use Rattle.dht_types.specs.declared.identifiers.Gfid.{Gfid}
 use Rattle.dht_types.specs.declared.locks.Key.{Key}
 use Rattle.dht_types.specs.declared.locks.Key.TheVariants.{Dir, Entry as Name}
 use Rattle.dht_types.specs.declared.locks.Mode.{Mode}
-use Rattle.dht_types.specs.declared.locks.Mode.TheVariants.{Shared, Exclusive}
 use Rattle.dht_hash.specs.DaviesMeyer.{dm}
 use Rattle.dht_xattr.specs.Layout.{holder}
 use Rattle.dht_xattr.specs.declared.range.Range.{Range}
 use Rattle.dht_brick.specs.Kinds.{reply_kind}
+use Rattle.dht_brick.specs.Looks.{shape_of}
 use Rattle.dht_brick.specs.declared.requests.NameRequest.TheVariants.{Look}
-use Rattle.dht_brick.specs.declared.requests.Request.TheVariants.{Lock, OnNames}
+use Rattle.dht_brick.specs.declared.requests.Request.TheVariants.{Lock, Unlock, OnNames}
 use Rattle.dht_brick.specs.declared.replies.Reply.{Reply}
 use Rattle.dht_section.specs.declared.machine.Ask.{Ask}
-use Rattle.dht_section.specs.declared.machine.Finish.{Finish}
 use Rattle.dht_section.specs.declared.machine.Turn.{Turn}
-use Rattle.dht_section.specs.Claims.{Claim, claims_locks}
-use Rattle.dht_section.specs.Claims.{Lock as ALock}
-use Rattle.dht_section.specs.Disk.{dir_at, range_at}
-use Rattle.dht_section.specs.Rely.{bounds}
-use Rattle.dht_section.specs.Replies.{fault_of, is_shown, file_shown, range_shown}
-use Rattle.dht_section.specs.Scene.{Scene, HoldsDir, HoldsName, NameStands, MayAnswer}
+use Rattle.dht_section.specs.declared.machine.Turn.TheVariants.{Go, Done}
+use Rattle.dht_section.specs.Claims.{Claim, no_claim, claims_locks}
+use Rattle.dht_section.specs.Disk.{lock_at, slot_at, file_at, dir_at, range_at}
+use Rattle.dht_section.specs.Looks.{sight_with, no_sight, mark_at, linkto_in, linkto_at, not_looked, looked_at, with_looked, is_nodir, file_in, IsNoDir, looks_left}
+use Rattle.dht_section.specs.Replies.{fault_of, is_shown}
+use Rattle.dht_section.specs.Rely.{bounds, AllPlanned}
+use Rattle.dht_section.specs.Scene.{Scene, NameStands, MayAnswer, fault_finish}
 use Rattle.dht_section.specs.Shapes.{NameShape, Bare, Plain, node_of}
 use Rattle.dht_section.specs.Stages.{Stage, Ending, MatchTurn}
-use Rattle.dht_section.specs.declared.section.Location.{Location}
-use Rattle.dht_section.specs.declared.section.Place.{Place}
-use Rattle.dht_section.specs.declared.section.Seen.{Seen}
-use Rattle.dht_section.specs.declared.section.Section.{Section}
-use Rattle.dht_section.specs.declared.section.Section.TheVariants.{LockingDirectory, LockingName, Looking}
+use Rattle.dht_section.specs.Views.{links_to}
+use Rattle.dht_section.specs.Want.{Wanted, Scoped, IsOrdered, IsScope, key_at, name_at, place_of, mode_of, dir_of, lock_brick, claimed}
+use Rattle.dht_section.specs.declared.looks.Looked.{Looked}
+use Rattle.dht_section.specs.declared.looks.Place.{Place}
+use Rattle.dht_section.specs.declared.looks.Sight.{Sight}
+use Rattle.dht_section.specs.declared.looks.What.{What}
+use Rattle.dht_section.specs.declared.looks.What.TheVariants.{File}
 use Rattle.dht_section.specs.declared.section.Held.{Held}
-use Rattle.dht_section.specs.declared.section.Stopped.{Stopped}
-use Rattle.dht_section.specs.declared.section.Stopped.TheVariants.{Directory, Both}
-use Rattle.dht_section.specs.declared.section.SectionOutcome.{SectionOutcome}
-use Rattle.dht_section.specs.declared.section.SectionOutcome.TheVariants.{Held as Holding, Stopped as Stopping}
+use Rattle.dht_section.specs.declared.section.Opened.{Opened}
+use Rattle.dht_section.specs.declared.section.Opened.TheVariants.{Held as Holding, Gone as IsGone, Stopped as IsStopped}
+use Rattle.dht_section.specs.declared.section.Prepared.{Prepared}
+use Rattle.dht_section.specs.declared.section.Section.{Section}
+use Rattle.dht_section.specs.declared.section.Section.TheVariants.{Locking, Looking, Unlocking}
+use Rattle.dht_section.specs.declared.section.Unheld.{Unheld}
+use Rattle.dht_section.specs.declared.section.Unheld.TheVariants.{Gone, Stopped}
 
--- the name in its directory
-abbrev pub entry_at : Location → Entry
-entry_at l = (l.directory, l.name)
+-- ---- what it asks
 
--- the locks of the directory and of the name, and the brick on which they stand
-abbrev pub directory_key : Location → Key
-directory_key l = Dir l.directory
+abbrev pub lock_ask : Scoped → ℕ → Ask
+lock_ask w i = record { brick = record { 0 = lock_brick w (key_at w i) }; request = Lock (key_at w i) (mode_of w (key_at w i)) }
 
-abbrev pub name_key : Location → Key
-name_key l = Name l.directory l.name
+abbrev pub look_ask : Scoped → ℕ → BrickNo → Ask
+look_ask w n b = record { brick = b; request = OnNames (Look (name_at w n).0 (name_at w n).1) }
 
-abbrev pub lock_brick : Location → ℕ
-lock_brick l = if l.bricks == 0 then 0 else anchor l.directory l.bricks
+abbrev pub unlock_ask : Scoped → ℕ → Ask
+unlock_ask w i = record { brick = record { 0 = lock_brick w (key_at w i) }; request = Unlock (key_at w i) }
 
-abbrev pub lock_ask : Location → Key → Mode → Ask
-lock_ask l key mode = record { brick = record { 0 = lock_brick l }; request = Lock key mode }
+-- the place of the last lock
+abbrev pub last_lock : Scoped → ℕ
+last_lock w = length w.keys - 1
 
--- what is claimed of them: the directory's lock, or both, the last that was asked for first
-abbrev pub lock_of : Location → Key → ALock
-lock_of l key = record { brick = lock_brick l; key = key }
+-- what is claimed where all locks are held
+abbrev pub all_claimed : Scoped → Claim
+all_claimed w = claims_locks (claimed w (suc (last_lock w)))
 
-abbrev pub directory_claimed : Location → Claim
-directory_claimed l = claims_locks (lock_of l (directory_key l) ∷ [])
+-- ---- what it knows
 
-abbrev pub both_claimed : Location → Claim
-both_claimed l = claims_locks (lock_of l (name_key l) ∷ lock_of l (directory_key l) ∷ [])
-
--- the name is in the root of a volume of so many bricks
-pub record HasPlace (l : Location) (s : Scene) : Type 0 where
-  pub bricks : length s.history.weights ≡ l.bricks
-  pub root : l.directory ≡ root
+-- the volume has so many bricks, and the home of the directory of each name is one of them
+pub record HasScope (w : Scoped) (s : Scene) : Type 0 where
+  pub bricks : length s.history.weights ≡ w.bricks
+  pub homes : (n : ℕ) → n < length w.names → home (name_at w n).0 < w.bricks
 
 -- and the call has done no step
-pub record IsFresh (l : Location) (s : Scene) : Type 0 where
-  pub place : HasPlace l s
+pub record IsFresh (w : Scoped) (s : Scene) : Type 0 where
+  pub scope : HasScope w s
   pub deeds : s.mine.deeds ≡ None
 
--- what was found after a look at one more brick
-abbrev pub found_then : Option Place → BrickNo → Option Gfid → Option Place
-found_then found b None = found
-found_then found b (Some f) = Some (record { brick = b; file = f })
+-- the scene in which a section of what is wanted begins
+pub record MayBegin (bricks : ℕ) (want : Wanted) (s : Scene) : Type 0 where
+  pub count : length s.history.weights ≡ bricks
+  pub homes : (e : Entry) → Contains want.names e → home e.0 < bricks
+  pub deeds : s.mine.deeds ≡ None
 
--- the ranges with one more; a layout has 32 at most
-abbrev pub lengthened : List (Option Range) → Option Range → List (Option Range)
-lengthened ranges range = if nat_lt (length ranges) 32 then ranges ++ range ∷ [] else ranges
+-- the locks below a place are held, each in its mode
+abbrev pub HoldsKey : Scoped → Key → Scene → Type 0
+HoldsKey w key s = lock_at s.disk (dir_of key) key s.who ≡ Some (mode_of w key)
 
--- what was seen after a look at one more brick
-abbrev pub seen : Seen → BrickNo → Reply → Seen
-seen x b r = record { place = found_then x.place b (file_shown r); layout = lengthened x.layout (range_shown r) }
-
--- nothing was seen yet
-abbrev pub nothing_seen : Seen
-nothing_seen = record { place = None; layout = [] }
+abbrev pub AllHeld : Scoped → ℕ → Scene → Type 0
+AllHeld w i s = (j : ℕ) → j < i → HoldsKey w (key_at w j) s
 
 -- how a name stands that was found so on all bricks
 abbrev pub found_shape : Option Place → NameShape
@@ -103,150 +97,341 @@ abbrev pub shown_below : ℕ → Option Place → Option Place
 shown_below limit None = None
 shown_below limit (Some p) = if nat_lt p.brick.0 limit then Some p else None
 
--- nothing stands at the name, or a file on one brick; and this is what the bricks below the limit showed of it
+-- nothing stands at the name, or a file on one brick; and this is what the bricks below the limit
+-- showed of it
 pub record Saw (e : Entry) (limit : ℕ) (found : Option Place) (s : Scene) : Type 0 where
   pub full : Option Place
   pub stands : NameStands s e (found_shape full)
   pub shows : found ≡ shown_below limit full
 
--- each of the first bricks has the directory, and these ranges of it, but for their commit words
-pub record Reads (g : Gfid) (ranges : List (Option Range)) (s : Scene) : Type 0 where
-  pub there : (b : ℕ) → b < length ranges → is_some (dir_at s.disk b g) ≡ true
-  pub same : (b : ℕ)
-      → b < length ranges → bounds (slice_index_or ranges b None) ≡ bounds (range_at s.disk g b)
+-- a brick has a copy of the directory, with the range that was read, but for its commit word
+pub record HasCopy (g : Gfid) (read : Option Range) (b : ℕ) (s : Scene) : Type 0 where
+  pub there : is_some (dir_at s.disk b g) ≡ true
+  pub same : bounds read ≡ bounds (range_at s.disk g b)
 
--- the directory's lock is held
-pub record LockingKnows (l : Location) (s : Scene) : Type 0 where
-  pub fresh : IsFresh l s
-  pub directory : HoldsDir s l.directory
+-- a brick, not the home, had no copy of a directory, not the root, so no range was read: it has none
+-- still, or all ranges of the directory are planned
+pub record HadNoCopy (g : Gfid) (read : Option Range) (b : ℕ) (s : Scene) : Type 0 where
+  pub below : g ≢ root
+  pub away : b ≢ home g
+  pub nothing : read ≡ None
+  pub still : (dir_at s.disk b g ≡ None) ⊎ AllPlanned s.disk s.history.weights g
 
--- both are, and this is what the bricks below this one showed
-pub record LookingKnows (l : Location) (b : BrickNo) (x : Seen) (s : Scene) : Type 0 where
-  pub fresh : IsFresh l s
-  pub holds : HoldsName s (entry_at l)
-  pub within : b.0 < l.bricks
-  pub saw : Saw (entry_at l) b.0 x.place s
-  pub read : Reads l.directory x.layout s
+-- what was read on a brick, by the mark that says whether it had a copy
+abbrev pub ReadAt : Gfid → Bool → Option Range → ℕ → Scene → Type 0
+ReadAt g true read b s = HasCopy g read b s
+ReadAt g false read b s = HadNoCopy g read b s
+
+-- so was the directory read on each of the first bricks
+abbrev pub Reads : Gfid → Sight → Scene → Type 0
+Reads g x s = (b : ℕ)
+    → b < length x.layout → ReadAt g (mark_at x.copies b) (slice_index_or x.layout b None) b s
+
+-- at this line the tree had this at the name, and the call was running
+pub record SawAt (e : Entry) (x : Looked) (s : Scene) : Type 0 where
+  pub after : s.mine.since ≤ x.at
+  pub before : x.at ≤ s.history.size
+  pub directory : (s.history.past x.at).dirs e.0 ≡ true
+  pub node : (s.history.past x.at).names e ≡ node_of (found_shape (file_in x.sight.what))
+
+-- a brick's linkto at the name leads where it was seen to lead, or there is none
+pub record BrickShown (e : Entry) (x : Sight) (b : ℕ) (s : Scene) : Type 0 where
+  pub there : b < s.disk.count
+  pub linkto : linkto_at x.linktos b
+      ≡ linkto_in (length s.history.weights) (slot_at s.disk b e).main
+
+-- the file that was seen is at the name on its brick, and was moved so often
+pub record FileShown (e : Entry) (b : ℕ) (f : Gfid) (hop : ℕ) (s : Scene) : Type 0 where
+  pub there : b < s.disk.count
+  pub link : links_to f (slot_at s.disk b e) ≡ true
+  pub moved : hop ≡ (shape_of (file_at s.disk b f)).hop
+
+abbrev pub WhatShown : Entry → What → ℕ → Scene → Type 0
+WhatShown e (File f b links) hop s = FileShown e b.0 f hop s
+WhatShown e what hop s = Unit {0}
+
+-- so was each of the bricks below a limit
+pub record Shown (e : Entry) (x : Sight) (limit : ℕ) (s : Scene) : Type 0 where
+  pub room : (length x.linktos ≡ 32) × (length x.copies ≡ 32)
+  pub bricks : (b : ℕ) → b < limit → BrickShown e x b s
+  pub file : WhatShown e x.what x.hop s
+
+-- the name stands as it was seen, and did at the last look's line; and the directory as it was read
+pub record IsLooked (bricks : ℕ) (e : Entry) (x : Looked) (s : Scene) : Type 0 where
+  pub file : IsNoDir x.sight.what
+  pub stands : NameStands s e (found_shape (file_in x.sight.what))
+  pub read : Reads e.0 x.sight s
+  pub whole : length x.sight.layout ≡ bricks
+  pub shown : Shown e x.sight bricks s
+  pub saw : SawAt e x s
+
+-- so do all names below a place
+abbrev pub AllLooked : Scoped → ℕ → List Looked → Scene → Type 0
+AllLooked w n looks s = (j : ℕ) → j < n → IsLooked w.bricks (name_at w j) (looked_at looks j) s
+
+-- the locks below this one are held
+pub record LockingKnows (w : Scoped) (i : ℕ) (looks : List Looked) (s : Scene) : Type 0 where
+  pub order : IsOrdered w
+  pub fresh : IsFresh w s
+  pub within : i < length w.keys
+  pub room : length looks ≡ length w.names
+  pub holds : AllHeld w i s
+
+-- all are, and the names below this one were looked at, and this one on the bricks below this brick
+pub record LookingKnows (w : Scoped) (looks : List Looked) (n : ℕ) (b : BrickNo) (x : Sight) (s : Scene) : Type 0 where
+  pub order : IsOrdered w
+  pub fresh : IsFresh w s
+  pub name : n < length w.names
+  pub within : b.0 < w.bricks
+  pub room : length looks ≡ length w.names
+  pub holds : AllHeld w (length w.keys) s
+  pub file : IsNoDir x.what
+  pub saw : Saw (name_at w n) b.0 (file_in x.what) s
+  pub read : Reads (name_at w n).0 x s
   pub whole : length x.layout ≡ b.0
+  pub shown : Shown (name_at w n) x b.0 s
+  pub looked : AllLooked w n looks s
 
--- where a section is between its requests
-abbrev pub section_stage : Section → Stage
-section_stage (LockingDirectory l) = record {
-  asks = lock_ask l (directory_key l) Shared;
-  claims = directory_claimed l;
-  variant = l.bricks + 2;
-  knows = λ s. IsFresh l s;
-}
-section_stage (LockingName l) = record {
-  asks = lock_ask l (name_key l) Exclusive;
-  claims = both_claimed l;
-  variant = l.bricks + 1;
-  knows = λ s. LockingKnows l s;
-}
-section_stage (Looking l b x) = record {
-  asks = record { brick = b; request = OnNames (Look l.directory l.name) };
-  claims = both_claimed l;
-  variant = l.bricks - b.0;
-  knows = λ s. LookingKnows l b x s;
-}
+-- the locks above this one were given back, and this is earned
+pub record UnlockingKnows (w : Scoped) (i : ℕ) (right : Scene → Type 0) (s : Scene) : Type 0 where
+  pub order : IsOrdered w
+  pub scope : HasScope w s
+  pub within : i < length w.keys
+  pub earned : right s
 
--- at this line the tree has this at the name, and the call was running
-pub record SawAt (l : Location) (found : Option Place) (at : ℕ) (s : Scene) : Type 0 where
+-- all locks are held, and all names were looked at
+pub record IsHeld (h : Held) (s : Scene) : Type 0 where
+  pub order : IsOrdered h.scope
+  pub fresh : IsFresh h.scope s
+  pub room : length h.looks ≡ length h.scope.names
+  pub holds : AllHeld h.scope (length h.scope.keys) s
+  pub looked : AllLooked h.scope (length h.scope.names) h.looks s
+
+-- at this line the tree had no such directory, and the call was running, which has done no step
+pub record WasGone (g : Gfid) (at : ℕ) (s : Scene) : Type 0 where
+  pub deeds : s.mine.deeds ≡ None
   pub after : s.mine.since ≤ at
   pub before : at ≤ s.history.size
-  pub directory : (s.history.past at).dirs l.directory ≡ true
-  pub node : (s.history.past at).names (entry_at l) ≡ node_of (found_shape found)
+  pub gone : (s.history.past at).dirs g ≡ false
 
--- both locks are held; the name stands as it was found, and did at the last look's line; and the layout is the directory's
-pub record IsHeld (h : Held) (s : Scene) : Type 0 where
-  pub fresh : IsFresh h.location s
-  pub holds : HoldsName s (entry_at h.location)
-  pub stands : NameStands s (entry_at h.location) (found_shape h.found)
-  pub read : Reads h.location.directory h.layout s
-  pub whole : length h.layout ≡ h.location.bricks
-  pub saw : SawAt h.location h.found h.at s
+-- the directory is that of one of the names
+abbrev pub IsOfName : Scoped → Gfid → Type 0
+IsOfName w g = (n : ℕ) × (n < length w.names) × ((name_at w n).0 ≡ g)
 
--- the brick that holds the name, by the layout that was read
-abbrev pub held_holder : Held → Option ℕ
-held_holder h = holder h.layout (dm h.location.name)
+abbrev pub unheld_earned : Scoped → Unheld → Scene → Type 0
+unheld_earned w (Gone g at) s = IsOfName w g × WasGone g at s
+unheld_earned w (Stopped e) s = MayAnswer (fault_finish e) s
 
--- a call that is stopped answers this error, which has no point
-abbrev pub fault_finish : Errno → Finish
-fault_finish e = record { answer = Fault e; at = None }
+-- a section that was prepared, before its first request
+abbrev pub begun : Prepared → Section
+begun p = Locking p.scope 0 p.looks
 
-abbrev pub stopped_location : Stopped → Location
-stopped_location (Directory l e) = l
-stopped_location (Both l e) = l
+-- the section of what is wanted, before its first request
+abbrev pub IsFirst : ℕ → Wanted → Section → Type 0
+IsFirst bricks want (Locking w i looks) =
+    IsScope bricks want w × (i ≡ 0) × (looks ≡ replicate (length w.names) not_looked)
+IsFirst bricks want m = ⊥
 
-abbrev pub stopped_errno : Stopped → Errno
-stopped_errno (Directory l e) = e
-stopped_errno (Both l e) = e
+-- the section of one name, whose directory is locked in this mode
+abbrev pub scope_of_name : ℕ → Gfid → Mode → List ℕ → Scoped
+scope_of_name bricks g mode n = record {
+  bricks = bricks;
+  dirs = (g, mode) ∷ [];
+  keys = Dir g ∷ Name g n ∷ [];
+  names = (g, n) ∷ [];
+}
 
-abbrev pub stopped_claims : Stopped → Claim
-stopped_claims (Directory l e) = directory_claimed l
-stopped_claims (Both l e) = both_claimed l
+abbrev pub prepared_for : ℕ → Gfid → Mode → List ℕ → Prepared
+prepared_for bricks g mode n = record { scope = scope_of_name bricks g mode n; looks = not_looked ∷ [] }
 
--- the call may answer the error
-pub record IsStopped (x : Stopped) (s : Scene) : Type 0 where
-  pub place : HasPlace (stopped_location x) s
-  pub earned : MayAnswer (fault_finish (stopped_errno x)) s
+abbrev pub first_section : ℕ → Gfid → Mode → List ℕ → Section
+first_section bricks g mode n = begun (prepared_for bricks g mode n)
 
--- how a section ends: it still claims what it asked for
-abbrev pub outcome_ending : SectionOutcome → Ending
-outcome_ending (Holding h) = record { claims = both_claimed h.location; earned = λ s. IsHeld h s }
-outcome_ending (Stopping x) = record { claims = stopped_claims x; earned = λ s. IsStopped x s }
+-- it asks for the directory's lock first, and sends so many requests at most
+pub record StartsWith (bricks : ℕ) (g : Gfid) (mode : Mode) (x : Stage) : Type 0 where
+  pub brick : x.asks.brick.0 ≡ (if bricks == 0 then 0 else anchor g bricks)
+  pub request : x.asks.request ≡ Lock (Dir g) mode
+  pub claims : x.claims ≡ claims_locks (record { brick = x.asks.brick.0; key = Dir g } ∷ [])
+  pub variant : x.variant ≡ bricks + 4
 
--- its directory and name
-abbrev pub section_location : Section → Location
-section_location (LockingDirectory l) = l
-section_location (LockingName l) = l
-section_location (Looking l b x) = l
+-- ---- where it is between its requests
 
-abbrev pub outcome_location : SectionOutcome → Location
-outcome_location (Holding h) = h.location
-outcome_location (Stopping x) = stopped_location x
+-- it gives back the locks up to this one, the last first
+abbrev pub unlocking_stage : Scoped → ℕ → (Scene → Type 0) → Stage
+unlocking_stage w i earned = record {
+  asks = unlock_ask w i;
+  claims = claims_locks (claimed w (suc i));
+  variant = suc i;
+  knows = λ s. UnlockingKnows w i earned s;
+}
 
--- what is left of a section where its request was not served
-abbrev pub section_stopped : Section → Errno → Stopped
-section_stopped (LockingDirectory l) e = Directory l e
-section_stopped (LockingName l) e = Both l e
-section_stopped (Looking l b x) e = Both l e
+abbrev pub section_stage : Section → Stage
+section_stage (Locking w i looks) = record {
+  asks = lock_ask w i;
+  claims = claims_locks (claimed w (suc i));
+  variant = length w.keys - i + looks_left w.bricks (length w.names) + suc (last_lock w);
+  knows = λ s. LockingKnows w i looks s;
+}
+section_stage (Looking w looks n b x) = record {
+  asks = look_ask w n b;
+  claims = all_claimed w;
+  variant = looks_left w.bricks (length w.names - n) - b.0 + suc (last_lock w);
+  knows = λ s. LookingKnows w looks n b x s;
+}
+section_stage (Unlocking w i x) = unlocking_stage w i (unheld_earned w x)
 
--- its request is to be sent again: the lock is another client's, or the reply is none to a look
-abbrev pub section_again : Section → Reply → Bool
-section_again (LockingDirectory l) r = not (is_carried (reply_kind r))
-section_again (LockingName l) r = not (is_carried (reply_kind r))
-section_again (Looking l b x) r = not (is_shown r)
+-- what is claimed and true when it ends: a section that is not held has given back its locks
+abbrev pub opened_ending : Opened → Ending
+opened_ending (Holding h) = record { claims = all_claimed h.scope; earned = λ s. IsHeld h s }
+opened_ending (IsGone g at) = record { claims = no_claim; earned = λ s. WasGone g at s }
+opened_ending (IsStopped e) = record { claims = no_claim; earned = λ s. MayAnswer (fault_finish e) s }
 
--- the section is of the same name after a turn
-abbrev pub KeepsLocation : Section → Turn Section SectionOutcome → Type 0
-KeepsLocation m turn =
-    MatchTurn turn (λ n. section_location n ≡ section_location m)
-    (λ d. outcome_location d ≡ section_location m)
+-- ---- how a reply takes it on
 
--- the error by which a section was stopped, if it was
-abbrev pub outcome_fault : SectionOutcome → Option Errno
-outcome_fault (Holding h) = None
-outcome_fault (Stopping x) = Some (stopped_errno x)
+abbrev pub opened_as : Unheld → Opened
+opened_as (Gone g at) = IsGone g at
+opened_as (Stopped e) = IsStopped e
 
--- it is stopped exactly where its request was not served, with the error of the reply
-abbrev pub StopsByFault : Reply → Turn Section SectionOutcome → Type 0
-StopsByFault r turn = MatchTurn turn (λ n. fault_of r ≡ None) (λ d. outcome_fault d ≡ fault_of r)
+-- all locks are held: the names are looked at, if there are some
+abbrev pub all_locked : Scoped → List Looked → Turn Section Opened
+all_locked w looks =
+    if nat_lt 0 (length w.names)
+    then Go (Looking w looks 0 (record { 0 = 0 }) no_sight)
+    else Done (Holding (record { scope = w; looks = looks }))
 
--- the layout that is read by the last of the looks
-abbrev pub section_taught : Section → Reply → Option (List (Option Range))
-section_taught (LockingDirectory l) r = None
-section_taught (LockingName l) r = None
-section_taught (Looking l b x) r =
-    if nat_le (l.bricks - b.0) 1 && is_shown r
-    then Some (lengthened x.layout (range_shown r))
-    else None
+abbrev pub locked : Scoped → ℕ → List Looked → Turn Section Opened
+locked w i looks =
+    if nat_lt 1 (length w.keys - i) then Go (Locking w (i + 1) looks) else all_locked w looks
 
-abbrev pub outcome_layout : SectionOutcome → Option (List (Option Range))
-outcome_layout (Holding h) = Some h.layout
-outcome_layout (Stopping x) = None
+abbrev pub stopped : Scoped → ℕ → Errno → Turn Section Opened
+stopped w i e = Go (Unlocking w i (Stopped e))
 
--- what a section read of the layout, it hands out
-abbrev pub HandsLayout : Section → Reply → Turn Section SectionOutcome → Type 0
-HandsLayout m r turn =
-    MatchTurn turn (λ n. section_taught m r ≡ None) (λ d. outcome_layout d ≡ section_taught m r)
+abbrev pub lock_answered : Scoped → ℕ → List Looked → Reply → Turn Section Opened
+lock_answered w i looks r =
+    if is_carried (reply_kind r) then locked w i looks else Go (Locking w i looks)
+
+abbrev pub unless_fault : Option Errno → Scoped → ℕ → Turn Section Opened → Turn Section Opened
+unless_fault None w i turn = turn
+unless_fault (Some e) w i turn = stopped w i e
+
+-- a name was looked at on all bricks
+abbrev pub name_looked : Scoped → List Looked → ℕ → Turn Section Opened
+name_looked w looks n =
+    if nat_lt 1 (length w.names - n)
+    then Go (Looking w looks (n + 1) (record { 0 = 0 }) no_sight)
+    else Done (Holding (record { scope = w; looks = looks }))
+
+abbrev pub looked : Scoped → List Looked → ℕ → BrickNo → Sight → ℕ → Turn Section Opened
+looked w looks n b x at =
+    if nat_lt 1 (w.bricks - b.0)
+    then Go (Looking w looks n (record { 0 = b.0 + 1 }) x)
+    else name_looked w (with_looked looks n (record { sight = x; at = at })) n
+
+-- the home of the directory has no record of it
+abbrev pub shows_gone : Gfid → BrickNo → Reply → Bool
+shows_gone g b r = is_nodir r && nat_eq b.0 (home g)
+
+abbrev pub look_answered : Scoped → List Looked → ℕ → BrickNo → Sight → Reply → ℕ → Turn Section Opened
+look_answered w looks n b x r at =
+    if shows_gone (name_at w n).0 b r
+    then Go (Unlocking w (last_lock w) (Gone (name_at w n).0 at))
+    else (
+    if is_shown r
+    then looked w looks n b (sight_with w.bricks x b r) at
+    else Go (Looking w looks n b x))
+
+abbrev pub unlocked : Scoped → ℕ → Unheld → Turn Section Opened
+unlocked w i x = if nat_lt 0 i then Go (Unlocking w (i - 1) x) else Done (opened_as x)
+
+abbrev pub section_after : Section → Reply → ℕ → Turn Section Opened
+section_after (Locking w i looks) r at = unless_fault (fault_of r) w i (lock_answered w i looks r)
+section_after (Looking w looks n b x) r at =
+    unless_fault (fault_of r) w (last_lock w) (look_answered w looks n b x r at)
+section_after (Unlocking w i x) r at = unlocked w i x
+
+-- what it locks and looks at
+abbrev pub section_scope : Section → Scoped
+section_scope (Locking w i looks) = w
+section_scope (Looking w looks n b x) = w
+section_scope (Unlocking w i x) = w
+
+abbrev pub IsOfScope : Scoped → Opened → Type 0
+IsOfScope w (Holding h) = h.scope ≡ w
+IsOfScope w out = Unit {0}
+
+-- that stays the same
+abbrev pub KeepsScope : Section → Turn Section Opened → Type 0
+KeepsScope m turn =
+    MatchTurn turn (λ n. section_scope n ≡ section_scope m) (λ d. IsOfScope (section_scope m) d)
+
+-- a directory that was gone is that of one of the names
+abbrev pub GoneOfName : Scoped → Opened → Type 0
+GoneOfName w (IsGone g at) = IsOfName w g
+GoneOfName w out = Unit {0}
+
+abbrev pub NamesGone : Section → Turn Section Opened → Type 0
+NamesGone m turn = MatchTurn turn (λ n. Unit {0}) (λ d. GoneOfName (section_scope m) d)
+
+-- the error by which it was stopped, and that of the reply to its request; an unlock is always
+-- carried out
+abbrev pub unheld_fault : Unheld → Option Errno
+unheld_fault (Gone g at) = None
+unheld_fault (Stopped e) = Some e
+
+abbrev pub section_fault : Section → Option Errno
+section_fault (Unlocking w i x) = unheld_fault x
+section_fault m = None
+
+abbrev pub fault_now : Section → Reply → Option Errno
+fault_now (Unlocking w i x) r = unheld_fault x
+fault_now m r = fault_of r
+
+abbrev pub opened_fault : Opened → Option Errno
+opened_fault (IsStopped e) = Some e
+opened_fault out = None
+
+-- it is stopped exactly where a request was not served, by the error of the reply
+abbrev pub NotesFault : Section → Reply → Turn Section Opened → Type 0
+NotesFault m r turn =
+    MatchTurn turn (λ n. section_fault n ≡ fault_now m r) (λ d. opened_fault d ≡ fault_now m r)
+
+-- ---- what is held
+
+-- what was seen of a name
+abbrev pub looked_of : Option ℕ → List Looked → Looked
+looked_of (Some n) looks = looked_at looks n
+looked_of None looks = not_looked
+
+abbrev pub held_looked : Held → Entry → Looked
+held_looked h e = looked_of (place_of h.scope e) h.looks
+
+-- the layout of its directory
+abbrev pub held_layout : Held → Entry → List (Option Range)
+held_layout h e = (held_looked h e).sight.layout
+
+-- the brick that holds a name, by the layout that was read
+abbrev pub held_holder : Held → Entry → Option ℕ
+held_holder h e = holder (held_layout h e) (dm e.1)
+
+-- the name is one of those that were wanted
+abbrev pub IsWanted : Held → Entry → Type 0
+IsWanted h e = Contains h.scope.names e
+
+-- ---- what it teaches of a layout, and what is left
+
+-- the layout of the directory of a name, where a turn ends with the section held
+abbrev pub turn_layout : Entry → Turn Section Opened → Option (List (Option Range))
+turn_layout e (Done (Holding h)) = Some (held_layout h e)
+turn_layout e turn = None
+
+-- the layout that a reply teaches: by it the section is held, at whatever line
+abbrev pub section_taught : Entry → Section → Reply → Option (List (Option Range))
+section_taught e m r = turn_layout e (section_after m r 0)
+
+-- before it is held, a section has more requests left than there are locks
+abbrev pub Outlasts : Section → Opened → Type 0
+Outlasts m (Holding h) = suc (last_lock h.scope) < (section_stage m).variant
+Outlasts m out = Unit {0}
+
+abbrev pub LeavesUnlocks : Section → Turn Section Opened → Type 0
+LeavesUnlocks m turn = MatchTurn turn (λ n. Unit {0}) (λ d. Outlasts m d)

@@ -1,18 +1,20 @@
 //! A client, as the world sees it: it has at most one running call, whatever the call's program is.
 
-ghost use Rattle.std.specs.Prelude.{◌≡◌, ◌<◌, ◌≤◌, Bool, true, false, not, None, length};
-ghost use Rattle.dht_types.specs.Calls.{IsInRoot};
+ghost use Rattle.std.specs.Prelude.{◌≡◌, ◌<◌, ◌≤◌, Bool, true, false, not, None, OnOk, is_ok, length};
+ghost use Rattle.dht_types.specs.Calls.{refusal_at_start};
 ghost use Rattle.dht_types.specs.Cost.{cost};
 ghost use Rattle.dht_types.specs.declared.identifiers.ClientNo.{ClientNo};
-ghost use Rattle.dht_section.specs.Begins.{Begins};
+ghost use Rattle.dht_section.specs.Begins.{Begins, IsRefusal};
 ghost use Rattle.dht_section.specs.Scene.{Scene};
 ghost use Rattle.dht_section.specs.Stages.{Stage, CallMoves, MaySend, IsStable};
 
 use super::machine::{Ask, Finish};
 use dht_brick::replies::Reply;
 use dht_types::calls::Call;
-use dht_types::identifiers::CallNo;
+use dht_types::errors::Errno;
+use dht_types::identifiers::{CallNo, Gfid};
 use dht_types::volumes::Weights;
+use std::alloc::Global;
 
 /// A client that carries out one call at a time.
 pub trait Caller: Sized {
@@ -29,17 +31,29 @@ pub trait Caller: Sized {
     fn is_idle(&self) -> bool
         ensures { result ≡ not (is_busy self.now) };
 
-    /// Begins a call, over bricks of these weights and in this run.
-    fn start(&mut self, weights: &Weights, run: u32, call: CallNo, what: &Call)
+    /// Begins a call, over bricks of these weights and in this run; or gives what the call answers
+    /// before its first request, and stays idle: that its name is none (Einval, Enametoolong), that
+    /// its directory is none of the tree, as its home is no brick (Estale), or, where none of these
+    /// applies, that memory ran out (Enomem).
+    fn start(
+        &mut self,
+        alloc: Global,
+        weights: &Weights,
+        run: u32,
+        call: CallNo,
+        what: &Call<Gfid>,
+    ) -> Result<(), Errno>
         requires idle { is_busy self.old ≡ false }
         requires few { length weights.now ≤ 32 }
-        requires root { IsInRoot what.now }
-        ensures busy { is_busy self.new ≡ true }
         ensures number { number self.new ≡ number self.old }
-        ensures copy { (stage self.new).claims.copy ≡ None }
-        ensures knows { (s : Scene) → Begins (number self.old) weights.now run call what.now s
-            → (stage self.new).knows s }
-        ensures variant { (stage self.new).variant ≤ cost (length weights.now) what.now };
+        ensures refused { IsRefusal (refusal_at_start (length weights.now) what.now) result }
+        ensures busy { is_busy self.new ≡ is_ok result }
+        ensures copy { OnOk result ((stage self.new).claims.copy ≡ None) }
+        ensures knows { OnOk result ((s : Scene)
+            → Begins (number self.old) weights.now run call what.now s
+            → (stage self.new).knows s) }
+        ensures variant { OnOk result
+            ((stage self.new).variant ≤ cost (length weights.now) what.now) };
 
     /// The request that its call sends next.
     fn next(&self) -> Ask

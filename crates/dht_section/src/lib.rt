@@ -4,6 +4,11 @@
 
 pub mod caller;
 pub mod closing;
+pub mod ended;
+pub mod location;
+pub mod looks;
 pub mod machine;
+pub mod reap;
 pub mod replies;
 pub mod section;
+pub mod want;

@@ -3,11 +3,13 @@
 //! makes what it knows false.
 
 ghost use Rattle.std.specs.Prelude.{◌≡◌};
+ghost use Rattle.dht_section.specs.Scene.{fault_finish};
 ghost use Rattle.dht_section.specs.Stages.{Stage, Ending, Moves, MaySend, IsStable};
 
 use dht_brick::replies::Reply;
 use dht_brick::requests::Request;
 use dht_types::calls::Answer;
+use dht_types::errors::Errno;
 use dht_types::identifiers::BrickNo;
 
 /// A request to one brick.
@@ -29,6 +31,16 @@ pub enum Turn<M, D> {
 pub struct Finish {
     pub answer: Answer,
     pub at: Option<u64>,
+}
+
+/// The answer of a call that was stopped by this error. It holds at no line.
+pub fn fault_finish(errno: Errno) -> Finish
+    ensures { result ≡ fault_finish errno }
+{
+    Finish {
+        answer: Answer::Fault(errno),
+        at: None,
+    }
 }
 
 /// A program of requests. It learns from replies alone; `at` is the number of the line on which a

@@ -1,15 +1,17 @@
 -- How long an answer stays right.
 use Rattle.std.proofs.Common.{◌≡◌, ◌≤◌, ℕ, true, sym, ◌∙◌, ap, subst, arith}
 use Rattle.std.specs.Prelude.{Option, Some, None}
+use Rattle.dht_types.specs.Calls.{refusal_at_once}
 use Rattle.dht_types.specs.Tree.{Tree, says, answer_of}
-use Rattle.dht_types.specs.History.{History, PendingCall, Deeds, Tells, HasPoint, Answers, FaultHolds}
+use Rattle.dht_types.specs.declared.identifiers.Gfid.{Gfid}
+use Rattle.dht_types.specs.History.{History, PendingCall, Deeds, Tells, HasPoint, IsAtOnce, Answers, FaultHolds}
 use Rattle.dht_types.specs.declared.calls.Call.{Call}
 use Rattle.dht_types.specs.declared.calls.Answer.{Answer}
-use Rattle.dht_types.specs.declared.calls.Answer.TheVariants.{File, Dir, Made, Fault}
+use Rattle.dht_types.specs.declared.calls.Answer.TheVariants.{File, Dir, Made, Done, Fault}
 use Rattle.dht_types.specs.declared.errors.Errno.{Errno}
-use Rattle.dht_types.specs.declared.errors.Errno.TheVariants.{Enoent, Enomem, Eexist, Einval, Enametoolong, Estale, Enotconn, Eio}
+use Rattle.dht_types.specs.declared.errors.Errno.TheVariants.{Enoent, Enomem, Eexist, Einval, Enametoolong, Eisdir, Estale, Enotconn, Eio}
 
-tells_at : (s t : History) (call : Call) (deeds : Option Deeds) (j : ℕ) (a : Answer) → t.past j ≡ s.past j → Tells s call deeds j a → Tells t call deeds j a
+tells_at : (s t : History) (call : Call Gfid) (deeds : Option Deeds) (j : ℕ) (a : Answer) → t.past j ≡ s.past j → Tells s call deeds j a → Tells t call deeds j a
 tells_at s t call None j a e h = λ g. ap (λ (p : Tree). answer_of (says p call g)) e ∙ h g
 tells_at s t call (Some d) j a e h = h
 
@@ -34,8 +36,14 @@ point_kept s t x y at a g h =
       printed = h.printed;
       after = omega arith;
       before = omega arith;
-      tells = subst (λ (c : Call). Tells t c y.deeds h.point a) (sym g.call) (subst (λ (d : Option Deeds). Tells t x.call d h.point a) (sym g.deeds) (tells_at s t x.call x.deeds h.point a (g.past h.point h.before) h.tells));
+      tells = subst (λ (c : Call Gfid). Tells t c y.deeds h.point a) (sym g.call) (subst (λ (d : Option Deeds). Tells t x.call d h.point a) (sym g.deeds) (tells_at s t x.call x.deeds h.point a (g.past h.point h.before) h.tells));
     }
+
+at_once_kept : (s t : History) (x y : PendingCall) (at : Option ℕ) (e : Errno) → Continues s t x y → IsAtOnce x at e → IsAtOnce y at e
+at_once_kept s t x y at e g h = record {
+  refused = ap (λ (c : Call Gfid). refusal_at_once c) g.call ∙ h.refused;
+  unprinted = h.unprinted;
+}
 
 fault_kept : (s t : History) (x y : PendingCall) (at : Option ℕ) (e : Errno) → Continues s t x y → FaultHolds s x at e → FaultHolds t y at e
 fault_kept s t x y at Enoent g h = point_kept s t x y at _ g h
@@ -43,12 +51,14 @@ fault_kept s t x y at Enomem g h = h
 fault_kept s t x y at Eexist g h = point_kept s t x y at _ g h
 fault_kept s t x y at Enotconn g h = (h.0, g.told_down h.1)
 fault_kept s t x y at Eio g h = (h.0, g.told_failed h.1)
-fault_kept s t x y at Einval g h = h
-fault_kept s t x y at Enametoolong g h = h
+fault_kept s t x y at Einval g h = at_once_kept s t x y at _ g h
+fault_kept s t x y at Enametoolong g h = at_once_kept s t x y at _ g h
+fault_kept s t x y at Eisdir g h = point_kept s t x y at _ g h
 fault_kept s t x y at Estale g h = point_kept s t x y at _ g h
 
 pub answers_kept : (s t : History) (x y : PendingCall) (at : Option ℕ) (a : Answer) → Continues s t x y → Answers s x at a → Answers t y at a
 answers_kept s t x y at (File f) g h = point_kept s t x y at _ g h
 answers_kept s t x y at (Dir k) g h = point_kept s t x y at _ g h
 answers_kept s t x y at (Made f) g h = point_kept s t x y at _ g h
+answers_kept s t x y at Done g h = point_kept s t x y at _ g h
 answers_kept s t x y at (Fault e) g h = fault_kept s t x y at e g h

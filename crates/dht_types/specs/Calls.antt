@@ -1,15 +1,57 @@
--- What a call names.
-use Rattle.std.specs.Prelude.{◌≡◌}
-use Rattle.dht_types.specs.Gfid.{root}
+-- What a call names, and when it is refused at once.
+use Rattle.std.specs.Prelude.{ℕ, nat_lt, if◌then◌else◌, Option, Some, None, List, option_map}
+use Rattle.dht_types.specs.Gfid.{root, home}
+use Rattle.dht_types.specs.Name.{refusal_of}
+use Rattle.dht_types.specs.declared.errors.Errno.{Errno}
+use Rattle.dht_types.specs.declared.errors.Errno.TheVariants.{Estale}
 use Rattle.dht_types.specs.declared.identifiers.Gfid.{Gfid}
 use Rattle.dht_types.specs.declared.calls.Call.{Call}
-use Rattle.dht_types.specs.declared.calls.Call.TheVariants.{Lookup, Create}
+use Rattle.dht_types.specs.declared.calls.Call.TheVariants.{Lookup, Create, Unlink}
+use Rattle.dht_types.specs.declared.events.Directory.{Directory}
+use Rattle.dht_types.specs.declared.events.Directory.TheVariants.{Root, OfCall, Gfid as OfGfid}
 
 -- the directory of the call's name
-abbrev pub directory_of : Call → Gfid
+abbrev pub directory_of : {D : Type 0} → Call D → D
 directory_of (Lookup d n) = d
 directory_of (Create d n) = d
+directory_of (Unlink d n) = d
 
--- the call is in the root directory, the only one so far
-abbrev pub IsInRoot : Call → Type 0
-IsInRoot call = directory_of call ≡ root
+-- its name
+abbrev pub name_of : {D : Type 0} → Call D → List ℕ
+name_of (Lookup d n) = n
+name_of (Create d n) = n
+name_of (Unlink d n) = n
+
+-- the same call in another directory
+abbrev pub in_directory : {D E : Type 0} → Call D → E → Call E
+in_directory (Lookup d n) e = Lookup e n
+in_directory (Create d n) e = Create e n
+in_directory (Unlink d n) e = Unlink e n
+
+-- the gfid of a directory that a schedule names, where the calls have answered these
+abbrev pub named_gfid : (ℕ → Option Gfid) → Directory → Option Gfid
+named_gfid answered Root = Some root
+named_gfid answered (OfCall k) = answered k
+named_gfid answered (OfGfid g) = Some g
+
+-- the call that a schedule names
+abbrev pub named_call : (ℕ → Option Gfid) → Call Directory → Option (Call Gfid)
+named_call answered call = option_map (in_directory call) (named_gfid answered (directory_of call))
+
+-- why a call is refused before its first request: its name is none
+abbrev pub refusal_at_once : {D : Type 0} → Call D → Option Errno
+refusal_at_once call = refusal_of (name_of call)
+
+-- a directory whose home is none of so many bricks is none of the tree
+abbrev pub refusal_of_home : ℕ → Gfid → Option Errno
+refusal_of_home bricks d = if nat_lt (home d) bricks then None else Some Estale
+
+-- the first of two refusals
+abbrev pub first_refusal : Option Errno → Option Errno → Option Errno
+first_refusal (Some e) later = Some e
+first_refusal None later = later
+
+-- what a call answers before its first request, over so many bricks
+abbrev pub refusal_at_start : ℕ → Call Gfid → Option Errno
+refusal_at_start bricks call =
+    first_refusal (refusal_at_once call) (refusal_of_home bricks (directory_of call))

@@ -1,22 +1,23 @@
 -- What the lines of a transcript tell, and when a transcript is legal. Nothing here speaks of bricks' contents or of programs.
-use Rattle.std.specs.Prelude.{ℕ, ◌+◌, ◌^◌, ◌<◌, ◌≤◌, ◌≡◌, ◌||◌, ◌&&◌, if◌then◌else◌, nat_eq, Bool, true, false, not, Option, Some, None, List, [], ◌∷◌, ◌++◌}
+use Rattle.std.specs.Prelude.{ℕ, ◌+◌, ◌^◌, ◌<◌, ◌≤◌, ◌≡◌, ◌||◌, ◌&&◌, if◌then◌else◌, nat_eq, Bool, true, false, not, Option, Some, None, MatchOption, List, [], ◌∷◌, ◌++◌}
 use Rattle.dht_types.specs.Put.{put}
-use Rattle.dht_types.specs.Gfid.{Entry, made}
+use Rattle.dht_types.specs.Calls.{refusal_at_once}
+use Rattle.dht_types.specs.Gfid.{Entry, root, made}
 use Rattle.dht_types.specs.Tree.{Tree, first_tree, applied, Fits, Said, Do, says, answer_of}
 use Rattle.dht_types.specs.declared.identifiers.Gfid.{Gfid}
 use Rattle.dht_types.specs.declared.identifiers.CallNo.{CallNo}
 use Rattle.dht_types.specs.declared.identifiers.ClientNo.{ClientNo}
 use Rattle.dht_types.specs.declared.errors.Errno.{Errno}
-use Rattle.dht_types.specs.declared.errors.Errno.TheVariants.{Enoent, Enomem, Eexist, Einval, Enametoolong, Estale, Enotconn, Eio}
+use Rattle.dht_types.specs.declared.errors.Errno.TheVariants.{Enoent, Enomem, Eexist, Einval, Enametoolong, Eisdir, Estale, Enotconn, Eio}
 use Rattle.dht_types.specs.declared.calls.Call.{Call}
 use Rattle.dht_types.specs.declared.calls.Answer.{Answer}
-use Rattle.dht_types.specs.declared.calls.Answer.TheVariants.{File, Dir, Made, Fault}
+use Rattle.dht_types.specs.declared.calls.Answer.TheVariants.{File, Dir, Made, Done, Fault}
 use Rattle.dht_types.specs.declared.calls.TreeStep.{TreeStep}
-use Rattle.dht_types.specs.declared.calls.TreeStep.TheVariants.{AddFile}
+use Rattle.dht_types.specs.declared.calls.TreeStep.TheVariants.{AddFile, RemoveFile}
 use Rattle.dht_types.specs.declared.lines.RequestKind.{RequestKind}
-use Rattle.dht_types.specs.declared.lines.RequestKind.TheVariants.{Lock, Create}
+use Rattle.dht_types.specs.declared.lines.RequestKind.TheVariants.{Lock, Create, Unlink}
 use Rattle.dht_types.specs.declared.lines.ReplyKind.{ReplyKind}
-use Rattle.dht_types.specs.declared.lines.ReplyKind.TheVariants.{Ok as Carried, Refused as Denied, Wait, Down, Failed, NoMemory}
+use Rattle.dht_types.specs.declared.lines.ReplyKind.TheVariants.{Ok as Carried, Wait, Down, Failed, NoMemory}
 use Rattle.dht_types.specs.declared.lines.Line.{Line}
 use Rattle.dht_types.specs.declared.lines.Line.TheVariants.{Volume, Called, Stepped, Waited, Tree as Changed, Answered, WentDown, CameUp, Died, Refused}
 
@@ -34,7 +35,7 @@ pub record Deeds : Type 0 where
 -- a call that has begun and not ended
 pub record PendingCall : Type 0 where
   pub number : CallNo
-  pub call : Call
+  pub call : Call Gfid
   pub since : ℕ  -- its call line
   pub alone : Bool  -- no other call was running when it began
   pub steps : ℕ  -- how many step lines it has
@@ -66,6 +67,7 @@ pub record History : Type 0 where
   pub past : ℕ → Tree  -- the tree after that many lines
   pub pending : ℕ → Option PendingCall  -- each client's call
   pub callers : List ℕ  -- the clients that have one
+  pub answered : ℕ → Option Gfid  -- the file or directory that each call answered, by its number
   pub dead : ℕ → Bool  -- which clients have died
   pub down : ℕ → Bool  -- which bricks are down
   pub clean : Bool  -- no line tells of a brick that was down or out of memory, or of a death
@@ -74,16 +76,18 @@ pub record History : Type 0 where
   pub changes : ℕ → List Entry  -- the slots of the tree lines under them
   pub owed : Option Owed
 
--- the gfid that a step makes
+-- the gfid that a step makes; for one that makes none it is the root's, which no answer names
 abbrev pub made_in : TreeStep → Gfid
 made_in (AddFile d n f) = f
+made_in (RemoveFile d n) = root
 
 -- the slot that a step changes
 abbrev pub slot_of : TreeStep → Entry
 slot_of (AddFile d n f) = (d, n)
+slot_of (RemoveFile d n) = (d, n)
 
 -- the tree lines with one more, on this tree and at this line
-abbrev pub deeds_after : Tree → ℕ → Call → Option Deeds → TreeStep → Deeds
+abbrev pub deeds_after : Tree → ℕ → Call Gfid → Option Deeds → TreeStep → Deeds
 deeds_after t line call None step = record { said = says t call (made_in step); first = record { line = line; step = step }; more = [] }
 deeds_after t line call (Some d) step = record { said = d.said; first = d.first; more = d.more ++ record { line = line; step = step } ∷ [] }
 
@@ -95,6 +99,7 @@ is_carried r = false
 -- the requests that change the tree, where they are carried out
 abbrev pub is_change : RequestKind → ReplyKind → Bool
 is_change Create r = is_carried r
+is_change Unlink r = is_carried r
 is_change q r = false
 
 abbrev pub owed_if : Bool → Owed → Option Owed
@@ -134,7 +139,7 @@ is_empty [] = true
 is_empty (x ∷ xs) = false
 
 -- a call that was accepted at this line, while these clients had one
-abbrev pub accepted : List ℕ → ℕ → CallNo → Call → PendingCall
+abbrev pub accepted : List ℕ → ℕ → CallNo → Call Gfid → PendingCall
 accepted callers line k call = record { number = k; call = call; since = line; alone = is_empty callers; steps = 0; was_down = false; has_failed = false; deeds = None }
 
 -- a pending call with one more step line of this reply, or with the tree line of this step at this line
@@ -164,6 +169,14 @@ without c (x ∷ xs) = if nat_eq x c then without c xs else x ∷ without c xs
 abbrev pub acts_after : List Act → Act → List Act
 acts_after acts x = if is_down x.reply then acts else acts ++ x ∷ []
 
+-- the file or directory that an answer names
+abbrev pub gfid_in : Answer → Option Gfid
+gfid_in (File f) = Some f
+gfid_in (Dir g) = Some g
+gfid_in (Made f) = Some f
+gfid_in Done = None
+gfid_in (Fault e) = None
+
 -- what each kind of line changes
 abbrev pub tells : History → Line → History
 tells s (Volume w) = record s { weights = w }
@@ -186,6 +199,7 @@ tells s (Changed k step) = with_step s step s.owed
 tells s (Answered k c j a) = record s {
   pending = put nat_eq s.pending c.0 None;
   callers = without c.0 s.callers;
+  answered = put nat_eq s.answered k.0 (gfid_in a);
   clean = s.clean && not (is_enomem a);
 }
 tells s (WentDown b) = record s { down = put nat_eq s.down b.0 true; clean = false }
@@ -217,6 +231,7 @@ start = record {
   past = λ j. first_tree;
   pending = λ c. None;
   callers = [];
+  answered = λ k. None;
   dead = λ c. false;
   down = λ b. false;
   clean = true;
@@ -247,7 +262,7 @@ abbrev pub all_steps : Deeds → List TreeStep
 all_steps d = d.first.step ∷ steps_of d.more
 
 -- the step is the next that the call is to do: the first that the tree says now, or the one after those that it did
-abbrev pub IsNext : Tree → Call → Option Deeds → TreeStep → Type 0
+abbrev pub IsNext : Tree → Call Gfid → Option Deeds → TreeStep → Type 0
 IsNext t call None step = (rest : List TreeStep) × ((a : Answer) × (says t call (made_in step) ≡ Do (step ∷ rest) a))
 IsNext t call (Some d) step = (rest : List TreeStep) × ((a : Answer) × (d.said ≡ Do (all_steps d ++ step ∷ rest) a))
 
@@ -255,13 +270,19 @@ IsNext t call (Some d) step = (rest : List TreeStep) × ((a : Answer) × (d.said
 abbrev pub IsOwn : ℕ → ClientNo → CallNo → Gfid → Type 0
 IsOwn run c k g = (home : ℕ) × (home < 2 ^ 16) × (g ≡ made run c k home)
 
+-- what a step makes is this call's own
+abbrev pub MakesOwn : ℕ → ClientNo → CallNo → TreeStep → Type 0
+MakesOwn run c k (AddFile d n f) = IsOwn run c k f
+MakesOwn run c k (RemoveFile d n) = Unit {0}
+
 -- the step is of the kind that a request stands for
 abbrev pub IsOf : RequestKind → TreeStep → Type 0
 IsOf Create (AddFile d n f) = Unit {0}
+IsOf Unlink (RemoveFile d n) = Unit {0}
 IsOf q step = ⊥
 
 -- this is what the tree says to the call at point j, where it says to do nothing; or the answer to the very steps that the call did, the first of them at line j
-abbrev pub Tells : History → Call → Option Deeds → ℕ → Answer → Type 0
+abbrev pub Tells : History → Call Gfid → Option Deeds → ℕ → Answer → Type 0
 Tells s call None j a = (g : Gfid) → answer_of (says (s.past j) call g) ≡ Some a
 Tells s call (Some d) j a = (d.first.line ≡ j) × (d.said ≡ Do (all_steps d) a)
 
@@ -279,22 +300,33 @@ pub record IsUndisturbed (s : History) (r : PendingCall) : Type 0 where
   pub last : r.number.0 ≡ s.calls
   pub clean : s.clean ≡ true
 
+-- a refusal at once is that of what the call names, and has no point
+pub record IsAtOnce (r : PendingCall) (at : Option ℕ) (e : Errno) : Type 0 where
+  pub refused : refusal_at_once r.call ≡ Some e
+  pub unprinted : at ≡ None
+
 -- memory that ran out is free and has no point; the call has then done the first of its steps, or some, or none. So has a call that ended because a brick was down, or failed
 abbrev pub FaultHolds : History → PendingCall → Option ℕ → Errno → Type 0
 FaultHolds s r at Enomem = at ≡ None
 FaultHolds s r at Enoent = HasPoint s r at (Fault Enoent)
 FaultHolds s r at Eexist = HasPoint s r at (Fault Eexist)
+FaultHolds s r at Eisdir = HasPoint s r at (Fault Eisdir)
 FaultHolds s r at Estale = HasPoint s r at (Fault Estale)
 FaultHolds s r at Enotconn = (at ≡ None) × (r.was_down ≡ true)
 FaultHolds s r at Eio = (at ≡ None) × (r.has_failed ≡ true)
-FaultHolds s r at Einval = ⊥
-FaultHolds s r at Enametoolong = ⊥
+FaultHolds s r at Einval = IsAtOnce r at Einval
+FaultHolds s r at Enametoolong = IsAtOnce r at Enametoolong
 
 abbrev pub Answers : History → PendingCall → Option ℕ → Answer → Type 0
 Answers s r at (File f) = HasPoint s r at (File f)
 Answers s r at (Dir g) = HasPoint s r at (Dir g)
 Answers s r at (Made f) = HasPoint s r at (Made f)
+Answers s r at Done = HasPoint s r at Done
 Answers s r at (Fault e) = FaultHolds s r at e
+
+-- a call that is to be refused at once answers so
+abbrev pub HeedsRefusal : PendingCall → Answer → Type 0
+HeedsRefusal r a = MatchOption (refusal_at_once r.call) (Unit {0}) (λ e. a ≡ Fault e)
 
 -- the line may come next
 abbrev pub Follows : History → Line → Type 0
@@ -302,15 +334,16 @@ abbrev pub Follows : History → Line → Type 0
 Follows s (Volume w) = s.size ≡ 0
 -- no line comes between a request and its tree line; calls are numbered, and a client that is busy calls nothing
 Follows s (Called k c call) = (s.owed ≡ None) × (k.0 ≡ s.calls + 1) × (s.pending c.0 ≡ None)
-Follows s (Stepped k c b q r) = (s.owed ≡ None) × ((o : PendingCall) × IsIn s c k o)
-Follows s (Waited k c b h) = (s.owed ≡ None) × ((o : PendingCall) × IsIn s c k o)
+-- a call that is to be refused at once takes no step
+Follows s (Stepped k c b q r) = (s.owed ≡ None) × ((o : PendingCall) × IsIn s c k o × (refusal_at_once o.call ≡ None))
+Follows s (Waited k c b h) = (s.owed ≡ None) × ((o : PendingCall) × IsIn s c k o × (refusal_at_once o.call ≡ None))
 -- a tree line stands directly under the line of its request; its step is the next of the call's steps, can be done, and makes a gfid of this call
-Follows s (Changed k step) = (w : Owed) × (s.owed ≡ Some w) × (w.call ≡ k) × IsOf w.request step × ((o : PendingCall) × IsIn s w.client k o × IsNext s.tree o.call o.deeds step × Fits step s.tree × IsOwn s.run w.client k (made_in step))
--- an answer is what the tree says
-Follows s (Answered k c at a) = (s.owed ≡ None) × ((o : PendingCall) × IsIn s c k o × Answers s o at a)
--- a client dies once
+Follows s (Changed k step) = (w : Owed) × (s.owed ≡ Some w) × (w.call ≡ k) × IsOf w.request step × ((o : PendingCall) × IsIn s w.client k o × IsNext s.tree o.call o.deeds step × Fits step s.tree × MakesOwn s.run w.client k step)
+-- an answer is what the tree says, or the refusal at once
+Follows s (Answered k c at a) = (s.owed ≡ None) × ((o : PendingCall) × IsIn s c k o × Answers s o at a × HeedsRefusal o a)
 Follows s (WentDown b) = s.owed ≡ None
 Follows s (CameUp b) = s.owed ≡ None
+-- a client dies once
 Follows s (Died c) = (s.owed ≡ None) × (s.dead c.0 ≡ false)
 Follows s (Refused n cause) = s.owed ≡ None
 

@@ -16,6 +16,8 @@ pub enum Errno {
     Einval,
     /// The name has more than 255 bytes.
     Enametoolong,
+    /// The name is a directory's.
+    Eisdir,
     /// The directory is none of the tree.
     Estale,
     /// A brick was down.
@@ -34,6 +36,7 @@ pub fn errno_number(error: Errno) -> u16
         Errno::Eexist => 17,
         Errno::Einval => 22,
         Errno::Enametoolong => 36,
+        Errno::Eisdir => 21,
         Errno::Estale => 116,
         Errno::Enotconn => 107,
         Errno::Eio => 5,
@@ -50,6 +53,7 @@ pub fn errno_word(error: Errno) -> &'static str
         Errno::Eexist => "eexist",
         Errno::Einval => "einval",
         Errno::Enametoolong => "enametoolong",
+        Errno::Eisdir => "eisdir",
         Errno::Estale => "estale",
         Errno::Enotconn => "enotconn",
         Errno::Eio => "eio",

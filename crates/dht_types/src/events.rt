@@ -1,7 +1,19 @@
 //! The events of a schedule, one for each of its lines.
 
 use super::calls::Call;
+use super::identifiers::Gfid;
 use super::volumes::Weights;
+
+/// A directory, as a line of a schedule names it.
+#[derive(Clone, Copy)]
+pub enum Directory {
+    /// The root: `@`.
+    Root,
+    /// The file or directory that the call of this number answered: `@` and the number.
+    OfCall(u64),
+    /// The directory of this gfid, in its own text.
+    Gfid(Gfid),
+}
 
 /// What a line of a schedule says. A number of a client or of a brick is what the line says, whether
 /// or not there is such a client or brick.
@@ -10,7 +22,7 @@ pub enum Event {
     /// The volume: its bricks' weights, in the bricks' order. It stands first and alone.
     Volume(Weights),
     /// This client calls.
-    Call(u64, Call),
+    Call(u64, Call<Directory>),
     /// The next request of this client's call is carried out.
     Step(u64),
     /// This brick goes down.

@@ -112,6 +112,8 @@ pub enum Cause {
     Busy,
     /// The client has no running call.
     Idle,
+    /// It names a directory by the answer of a call that has not answered a file or a directory.
+    Answer,
 }
 
 /// A line of a transcript that tells of an event.
@@ -120,7 +122,7 @@ pub enum Line {
     /// The volume, by its bricks' weights.
     Volume(Weights),
     /// A client's call was accepted.
-    Called(CallNo, ClientNo, Call),
+    Called(CallNo, ClientNo, Call<Gfid>),
     /// A brick served a request of a call.
     Stepped(CallNo, ClientNo, BrickNo, RequestKind, ReplyKind),
     /// A lock that a call asked for waits for this other client, which holds it.

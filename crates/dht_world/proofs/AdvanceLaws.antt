@@ -1,16 +1,18 @@
 -- How a step of a client's call is taken: its request, what the client claims next, and its answer.
-use Rattle.std.proofs.Common.{◌≡◌, ◌≢◌, ◌<◌, ◌≤◌, ◌+◌, ◌^◌, ◌↔◌, ℕ, Bool, true, false, List, [], ◌∷◌, ◌++◌, refl, sym, ap, ◌∙◌, subst, length, arith}
-use Rattle.std.specs.Prelude.{Some, None, is_some, not, nat_eq, MatchBool, slice_get, slice_set}
+use Rattle.std.proofs.Common.{◌≡◌, ◌≢◌, ◌<◌, ◌≤◌, ◌+◌, ◌-◌, ◌^◌, ◌↔◌, ℕ, Bool, true, false, List, [], ◌∷◌, ◌++◌, refl, sym, ap, ◌∙◌, subst, length, arith}
+use Rattle.std.specs.Prelude.{Option, Some, None, is_some, not, nat_eq, MatchBool, slice_get, slice_set}
 use Rattle.std.proofs.Math.ListN.{length-set}
 use Rattle.dht_types.specs.Put.{put}
 use Rattle.dht_types.proofs.PutLaws.{put_same, put_other, exact_nat}
+use Rattle.dht_types.specs.Calls.{refusal_at_once}
 use Rattle.dht_types.specs.Cost.{cost}
 use Rattle.dht_types.specs.Volume.{replay_names}
-use Rattle.dht_types.specs.History.{History, PendingCall, IsUndisturbed, with_line, with_lines, history_of}
+use Rattle.dht_types.specs.History.{History, PendingCall, IsUndisturbed, gfid_in, with_line, with_lines, history_of}
 use Rattle.dht_types.proofs.HistoryLaws.{lines_append, legal_append}
 use Rattle.dht_types.specs.declared.calls.Call.{Call}
 use Rattle.dht_types.specs.declared.identifiers.CallNo.{CallNo}
 use Rattle.dht_types.specs.declared.identifiers.ClientNo.{ClientNo}
+use Rattle.dht_types.specs.declared.identifiers.Gfid.{Gfid}
 use Rattle.dht_types.specs.declared.lines.Line.{Line}
 use Rattle.dht_types.specs.declared.lines.Line.TheVariants.{Waited, Answered}
 use Rattle.dht_brick.specs.Bricks.{ServesOrFails, is_unreachable, unless_down}
@@ -38,15 +40,17 @@ use Rattle.dht_invariant.specs.Transition.{scene, Transition}
 use Rattle.dht_world.specs.Clients.{client, claim_at, claims_of, Works, ClientFits}
 use Rattle.dht_world.specs.Following.{IsStep, IsWait}
 use Rattle.dht_world.specs.Lines.{step_line, request_lines}
-use Rattle.dht_world.specs.World.{Counts, At}
+use Rattle.dht_world.specs.World.{Summary, At}
 use Rattle.dht_world.specs.declared.places.Place.{Place}
 use Rattle.dht_world.specs.declared.places.Place.TheVariants.{Living}
+use Rattle.dht_world.proofs.AnsweredLaws.{answered_set}
 use Rattle.dht_world.proofs.AtLaws.{at_by, own_set, idle_claims, busy_claims, rely_claimed}
 use Rattle.dht_world.proofs.BlockLaws.{Told}
 use Rattle.dht_world.proofs.BrickLaws.{get_set_other}
 use Rattle.dht_world.proofs.ClientLaws.{Happens, holders_call, claims_set, busy_is}
 use Rattle.dht_world.proofs.CountLaws.{Passes, passes_on, undisturbed_before, counted_ended, none_if}
 use Rattle.dht_world.proofs.LineLaws.{in_time_append}
+use Rattle.dht_world.proofs.RefusalLaws.{heeds_none}
 use Rattle.dht_world.proofs.StepLaws.{lines_there, waits_is_lock, never_waits, held_by, wait_is_up, down_as_told, sound_as_told, unlock_kind, unlock_is_carried}
 use Rattle.dht_world.proofs.WentLaws.{Sent, Went, went, and_first}
 
@@ -62,13 +66,13 @@ pub record Answers (d : Disk) (js : ℕ → List JournalEntry) (down : ℕ → B
 
 module _ {C : Type 0} (g : CallerGhosts C) (laws : TransitionLaws) (stable : (x : C) → IsStable (g.stage x)) (permitted : (x : C) → g.is_busy x ≡ true → MaySend (g.stage x)) (goes_on : (x : C) → g.is_busy x ≡ true → 0 < (g.stage x).variant) where
   -- the client of a place has a pending call
-  pub works_at : (d : Disk) (js : ℕ → List JournalEntry) (places : List (Place C)) (ws : List ℕ) (n : Counts) (past : List Line) (c : ℕ) (x : C) (k : CallNo) → At g d js places ws n past → slice_get places c ≡ Some (Living x k) → g.is_busy x ≡ true → Works g d (history_of past) (claims_of g places) c x k
+  pub works_at : (d : Disk) (js : ℕ → List JournalEntry) (places : List (Place C)) (ws : List ℕ) (n : Summary) (past : List Line) (c : ℕ) (x : C) (k : CallNo) → At g d js places ws n past → slice_get places c ≡ Some (Living x k) → g.is_busy x ≡ true → Works g d (history_of past) (claims_of g places) c x k
   works_at d js places ws n past c x k h here busy =
       let fits : ClientFits g d (history_of past) (claims_of g places) c (Some (Living x k)) = subst (ClientFits g d (history_of past) (claims_of g places) c) here (h.fit.each c) in
       busy_is _ _ (g.is_busy x) busy fits.2
 
   -- it may send its request
-  pub may_ask : (d : Disk) (js : ℕ → List JournalEntry) (places : List (Place C)) (ws : List ℕ) (n : Counts) (past : List Line) (c : ℕ) (x : C) (k : CallNo) (a : Ask) (h : At g d js places ws n past) → (here : slice_get places c ≡ Some (Living x k)) → (busy : g.is_busy x ≡ true) → a ≡ (g.stage x).asks → Permitted (scene d (history_of past) (claims_of g places) (client c) (works_at d js places ws n past c x k h here busy).mine) a
+  pub may_ask : (d : Disk) (js : ℕ → List JournalEntry) (places : List (Place C)) (ws : List ℕ) (n : Summary) (past : List Line) (c : ℕ) (x : C) (k : CallNo) (a : Ask) (h : At g d js places ws n past) → (here : slice_get places c ≡ Some (Living x k)) → (busy : g.is_busy x ≡ true) → a ≡ (g.stage x).asks → Permitted (scene d (history_of past) (claims_of g places) (client c) (works_at d js places ws n past c x k h here busy).mine) a
   may_ask d js places ws n past c x k a h here busy ea =
       let works = works_at d js places ws n past c x k h here busy in
       let s = scene d (history_of past) (claims_of g places) (client c) works.mine in
@@ -76,7 +80,7 @@ module _ {C : Type 0} (g : CallerGhosts C) (laws : TransitionLaws) (stable : (x 
       (record { kept = h.fit.kept; early = h.fit.early; runs = works.runs; begun = works.begun })
       (record { claims = ap (claim_at g) here ∙ busy_claims g laws stable x k busy; knows = works.knows }))
 
-  module _ (d e : Disk) (js ks : ℕ → List JournalEntry) (places : List (Place C)) (ws : List ℕ) (n : Counts) (past : List Line) (c : ℕ) (x : C) (k : CallNo) (a : Ask) (r : Reply) (h : At g d js places ws n past) (l : c < 64) (here : slice_get places c ≡ Some (Living x k)) (busy : g.is_busy x ≡ true) (ea : a ≡ (g.stage x).asks) (small : n.lines < 2 ^ 64) (v : Answers d js (history_of past).down c k a r e ks) where
+  module _ (d e : Disk) (js ks : ℕ → List JournalEntry) (places : List (Place C)) (ws : List ℕ) (n : Summary) (past : List Line) (c : ℕ) (x : C) (k : CallNo) (a : Ask) (r : Reply) (h : At g d js places ws n past) (l : c < 64) (here : slice_get places c ≡ Some (Living x k)) (busy : g.is_busy x ≡ true) (ea : a ≡ (g.stage x).asks) (small : n.lines < 2 ^ 64) (v : Answers d js (history_of past).down c k a r e ks) where
     abbrev before_lines : History
     before_lines = history_of past
 
@@ -166,9 +170,9 @@ module _ {C : Type 0} (g : CallerGhosts C) (laws : TransitionLaws) (stable : (x 
     sent : Sent d js before_lines claims (client c) mine k a r e ks
     unfolding now mine
     sent =
-        let counts = h.fit.counts in
-        let fewer = counts.fewer in
-        let count = counts.calls in
+        let summary = h.fit.summary in
+        let fewer = summary.fewer in
+        let count = summary.calls in
         let some = goes_on x busy in
         record {
           logged = h.fit.logged;
@@ -176,6 +180,7 @@ module _ {C : Type 0} (g : CallerGhosts C) (laws : TransitionLaws) (stable : (x 
           owed = h.legal.whole;
           runs = works.runs;
           number = works.number;
+          named = works.named;
           small = omega arith;
           client = omega arith;
           begun = works.begun;
@@ -222,33 +227,33 @@ module _ {C : Type 0} (g : CallerGhosts C) (laws : TransitionLaws) (stable : (x 
         let two = laws.claim c e after_lines claims new requested.kept requested.early (subst (λ (y : Claim). Rattle.dht_section.specs.Claims.MayClaim e.count (λ b key. Rattle.dht_section.specs.Disk.holders e b key c) y new) (sym claims_now) may) in
         laws.compose c d e e before_lines after_lines after_lines claims claims (put nat_eq claims c new) h.fit.kept requested two
 
-    abbrev counts_then : Counts
-    counts_then = record n { lines = n.lines + length (request_lines k (client c) a r); requests = n.requests + 1 }
+    abbrev summary_then : Summary
+    summary_then = record n { lines = n.lines + length (request_lines k (client c) a r); requests = n.requests + 1 }
 
     -- the call goes on
-    pub at_on : (y : C) (new : Place C) → new ≡ Living y k → g.number y ≡ g.number x → g.is_busy y ≡ true → GoesOn (g.stage x) (g.stage y) r next_scene → At g e ks (slice_set places c new) ws counts_then (past ++ request_lines k (client c) a r)
+    pub at_on : (y : C) (new : Place C) → new ≡ Living y k → g.number y ≡ g.number x → g.is_busy y ≡ true → GoesOn (g.stage x) (g.stage y) r next_scene → At g e ks (slice_set places c new) ws summary_then (past ++ request_lines k (client c) a r)
     unfolding now mine then_mine next_scene
     at_on y new is same busy_then goes =
         let w = gone in
-        let counts = h.fit.counts in
+        let summary = h.fit.summary in
         let size = w.size in
-        let was = counts.lines in
+        let was = summary.lines in
         let requests = w.requests in
-        let requests_were = counts.requests in
+        let requests_were = summary.requests in
         let calls = w.only.calls in
-        let calls_were = counts.calls in
-        let fewer = counts.fewer in
-        let less = counts.less in
+        let calls_were = summary.calls in
+        let fewer = summary.fewer in
+        let less = summary.less in
         let many = h.fit.many in
         let within : c < length places = omega arith in
         let set : put nat_eq claims c (g.stage y).claims ≡ claims_of g (slice_set places c new) =
         ap (put nat_eq claims c) (sym (busy_claims g laws stable y k busy_then) ∙ ap (λ (z : Place C). claim_at g (Some z)) (sym is)) ∙ claims_set g places c new within in
         let fits : ClientFits g d before_lines claims c (Some (Living x k)) = subst (ClientFits g d before_lines claims c) here (h.fit.each c) in
-        at_by g laws stable c d e js ks places (slice_set places c new) ws n counts_then past (request_lines k (client c) a r) h w.legal w.owed w.in_time (record {
+        at_by g laws stable c d e js ks places (slice_set places c new) ws n summary_then past (request_lines k (client c) a r) h w.legal w.owed w.in_time (record {
           transition = subst (λ (q : ℕ → Claim). Transition c d before_lines claims e after_lines q) set (claimed (g.stage y).claims goes.claims);
           passes = w.passes;
           logged = w.logged;
-          counts = record { run = w.same_run ∙ counts.run; calls = omega arith; lines = omega arith; requests = omega arith; fewer = omega arith; less = (let more = lines_there k (client c) a r in omega arith) };
+          summary = record { run = w.same_run ∙ summary.run; calls = omega arith; lines = omega arith; requests = omega arith; answers = w.same_answered ∙ summary.answers; places = summary.places; fewer = omega arith; less = (let more = lines_there k (client c) a r in omega arith) };
           counted = w.counted;
           many = length-set places c new;
           same = λ i ne. get_set_other places c new i ne;
@@ -259,35 +264,47 @@ module _ {C : Type 0} (g : CallerGhosts C) (laws : TransitionLaws) (stable : (x 
               mine = then_mine;
               runs = w.runs;
               number = w.moved.mine.number ∙ works.number;
+              named = ap (λ (q : Call Gfid). refusal_at_once q) w.same_call ∙ works.named;
               begun = w.begun;
               knows = stable y next_scene (scene e after_lines (claims_of g (slice_set places c new)) (client c) then_mine) goes.knows (rely_claimed e after_lines claims (claims_of g (slice_set places c new)) c then_mine);
               in_time = λ u. (let before = undisturbed_before c before_lines after_lines mine then_mine w.passes (h.fit.counted.numbered c mine works.runs) (ap (λ (q : CallNo). q.0) w.moved.mine.number) w.moved.mine.alone u in
                   let bound = works.in_time before in
                   let nearer = (goes.nearer u).0 (calm_by r refl before) in
                   let steps = w.steps in
-                  subst (λ (q : Call). then_mine.steps + (g.stage y).variant ≤ cost (length after_lines.weights) q) (sym w.same_call)
+                  subst (λ (q : Call Gfid). then_mine.steps + (g.stage y).variant ≤ cost (length after_lines.weights) q) (sym w.same_call)
                   (subst (λ (q : List ℕ). then_mine.steps + (g.stage y).variant ≤ cost (length q) mine.call) (sym w.passes.weights) (omega arith)));
             }),
           ));
         })
 
-    abbrev counts_ended : Counts
-    counts_ended = record n { lines = n.lines + length (request_lines k (client c) a r) + 1; requests = n.requests + 1 }
+    abbrev summary_ended : Finish → Summary
+    summary_ended f = record n { lines = n.lines + length (request_lines k (client c) a r) + 1; requests = n.requests + 1; answers = slice_set n.answers (k.0 - 1) (gfid_in f.answer) }
+
+    -- the call has a place for its answer
+    pub call_there : (0 < k.0) × (k.0 ≤ length n.answers)
+    unfolding mine works
+    call_there =
+        let number : mine.number.0 ≡ k.0 = ap (λ (q : CallNo). q.0) works.number in
+        let some = h.fit.counted.from_one c mine works.runs in
+        let given = h.fit.counted.numbered c mine works.runs in
+        let calls = h.fit.summary.calls in
+        let room = h.fit.summary.places in
+        (omega arith, omega arith)
 
     -- the call answers
-    pub at_answered : (y : C) (new : Place C) (f : Finish) → new ≡ Living y k → g.number y ≡ g.number x → g.is_busy y ≡ false → EndsIn (g.stage x) (answered f) next_scene → At g e ks (slice_set places c new) ws counts_ended (past ++ (request_lines k (client c) a r ++ Answered k (client c) f.at f.answer ∷ []))
+    pub at_answered : (y : C) (new : Place C) (f : Finish) → new ≡ Living y k → g.number y ≡ g.number x → g.is_busy y ≡ false → EndsIn (g.stage x) (answered f) next_scene → At g e ks (slice_set places c new) ws (summary_ended f) (past ++ (request_lines k (client c) a r ++ Answered k (client c) f.at f.answer ∷ []))
     unfolding now mine then_mine next_scene
     at_answered y new f is same idle ends =
         let w = gone in
-        let counts = h.fit.counts in
+        let summary = h.fit.summary in
         let size = w.size in
-        let was = counts.lines in
+        let was = summary.lines in
         let requests = w.requests in
-        let requests_were = counts.requests in
+        let requests_were = summary.requests in
         let calls = w.only.calls in
-        let calls_were = counts.calls in
-        let fewer = counts.fewer in
-        let less = counts.less in
+        let calls_were = summary.calls in
+        let fewer = summary.fewer in
+        let less = summary.less in
         let many = h.fit.many in
         let more = lines_there k (client c) a r in
         let within : c < length places = omega arith in
@@ -309,11 +326,20 @@ module _ {C : Type 0} (g : CallerGhosts C) (laws : TransitionLaws) (stable : (x 
         }) in
         let both = laws.compose c d e e before_lines after_lines u claims (put nat_eq claims c no_claim) (put nat_eq claims c no_claim) h.fit.kept two three in
         let last : Passes c after_lines u = record { weights = refl; calls = omega arith; clean = and_first after_lines.clean _; dead = λ i ne. refl } in
-        let happens : Happens g c d e ks before_lines u places (slice_set places c new) counts_ended = record {
+        let happens : Happens g c d e ks before_lines u places (slice_set places c new) (summary_ended f) = record {
           transition = subst (λ (q : ℕ → Claim). Transition c d before_lines claims e u q) set both;
           passes = passes_on c before_lines after_lines u w.passes last;
           logged = record { steps = w.logged.steps; slots = w.logged.slots };
-          counts = record { run = w.same_run ∙ counts.run; calls = omega arith; lines = omega arith; requests = omega arith; fewer = omega arith; less = omega arith };
+          summary = record {
+            run = w.same_run ∙ summary.run;
+            calls = omega arith;
+            lines = omega arith;
+            requests = omega arith;
+            answers = ap (λ (q : ℕ → Option Gfid). put nat_eq q k.0 (gfid_in f.answer)) (w.same_answered ∙ summary.answers) ∙ answered_set n.answers k.0 (gfid_in f.answer) call_there.0 call_there.1;
+            places = length-set n.answers (k.0 - 1) (gfid_in f.answer) ∙ summary.places;
+            fewer = omega arith;
+            less = omega arith;
+          };
           counted = counted_ended after_lines u c w.counted refl refl refl;
           many = length-set places c new;
           same = λ i ne. get_set_other places c new i ne;
@@ -323,8 +349,8 @@ module _ {C : Type 0} (g : CallerGhosts C) (laws : TransitionLaws) (stable : (x 
             subst (λ (b : Bool). MatchBool b (Works g e u (claims_of g (slice_set places c new)) c y k) (u.pending c ≡ None)) (sym idle) (put_same nat_eq exact_nat after_lines.pending c None),
           ));
         } in
-        at_by g laws stable c d e js ks places (slice_set places c new) ws n counts_ended past (xs ++ end ∷ []) h
-        (legal_append before_lines xs (end ∷ []) w.legal ((w.owed, (then_mine, record { runs = w.runs; number = number_then }, ends.earned)), tt))
+        at_by g laws stable c d e js ks places (slice_set places c new) ws n (summary_ended f) past (xs ++ end ∷ []) h
+        (legal_append before_lines xs (end ∷ []) w.legal ((w.owed, (then_mine, record { runs = w.runs; number = number_then }, ends.earned, heeds_none then_mine f.answer (ap (λ (q : Call Gfid). refusal_at_once q) w.same_call ∙ works.named))), tt))
         (ap (λ (q : History). q.owed) all)
         (in_time_append before_lines xs (end ∷ []) w.in_time (tt, tt))
-        (subst (λ (q : History). Happens g c d e ks before_lines q places (slice_set places c new) counts_ended) (sym all) happens)
+        (subst (λ (q : History). Happens g c d e ks before_lines q places (slice_set places c new) (summary_ended f)) (sym all) happens)

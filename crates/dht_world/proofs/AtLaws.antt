@@ -1,18 +1,15 @@
 -- How what holds of the world is kept by an event: what each lemma here asks of the event, and the events that are no step.
-use Rattle.std.proofs.Common.{◌≡◌, ◌<◌, ◌≤◌, ◌+◌, ℕ, Bool, true, false, List, [], ◌∷◌, ◌++◌, refl, sym, ap, ◌∙◌, subst, inl, inr, length, arith}
-use Rattle.std.specs.Prelude.{Option, Some, None, nat_eq, MatchBool, if◌then◌else◌, slice_get, slice_set}
+use Rattle.std.proofs.Common.{◌≡◌, ◌<◌, ◌+◌, ℕ, Bool, true, false, List, [], ◌∷◌, ◌++◌, refl, sym, ap, ◌∙◌, subst, inl, length, arith}
+use Rattle.std.specs.Prelude.{Option, Some, None, nat_eq, if◌then◌else◌, slice_get, slice_set}
 use Rattle.std.proofs.Math.ListN.{length-set}
-use Rattle.dht_types.specs.Put.{put}
 use Rattle.dht_types.proofs.PutLaws.{put_same, put_other, exact_nat}
-use Rattle.dht_types.specs.Cost.{cost}
-use Rattle.dht_types.specs.History.{History, PendingCall, Follows, LegalFrom, accepted, tells, with_line, with_lines, start, history_of}
+use Rattle.dht_types.specs.History.{History, PendingCall, Follows, LegalFrom, tells, with_line, with_lines, start, history_of}
 use Rattle.dht_types.proofs.HistoryLaws.{lines_append, lines_more}
-use Rattle.dht_types.specs.declared.calls.Call.{Call}
 use Rattle.dht_types.specs.declared.identifiers.BrickNo.{BrickNo}
 use Rattle.dht_types.specs.declared.identifiers.CallNo.{CallNo}
 use Rattle.dht_types.specs.declared.lines.Cause.{Cause}
 use Rattle.dht_types.specs.declared.lines.Line.{Line}
-use Rattle.dht_types.specs.declared.lines.Line.TheVariants.{Called, WentDown, CameUp, Died, Refused}
+use Rattle.dht_types.specs.declared.lines.Line.TheVariants.{WentDown, CameUp, Died, Refused}
 use Rattle.dht_brick.specs.declared.journal.JournalEntry.{JournalEntry}
 use Rattle.dht_section.specs.Claims.{Claim, Listed, MayClaim, no_claim, place_in}
 use Rattle.dht_section.specs.Disk.{Disk, holders}
@@ -24,12 +21,12 @@ use Rattle.dht_invariant.specs.Laws.{TransitionLaws}
 use Rattle.dht_invariant.specs.Transition.{scene, Transition, FreesClient}
 use Rattle.dht_world.specs.Clients.{client, claim_at, claims_of, Works, ClientFits, CallsCounted, Starts}
 use Rattle.dht_world.specs.Following.{InTime, InTimeFrom}
-use Rattle.dht_world.specs.World.{Counts, Fit, At}
+use Rattle.dht_world.specs.World.{Summary, Fit, At}
 use Rattle.dht_world.specs.declared.places.Place.{Place}
 use Rattle.dht_world.specs.declared.places.Place.TheVariants.{Living, Dead}
 use Rattle.dht_world.proofs.BrickLaws.{get_set_same, get_set_other, none_at}
-use Rattle.dht_world.proofs.ClientLaws.{Happens, fit_after, claims_set, idle_is}
-use Rattle.dht_world.proofs.CountLaws.{counted_called, counted_ended, not_none}
+use Rattle.dht_world.proofs.ClientLaws.{Happens, fit_after, claims_set}
+use Rattle.dht_world.proofs.CountLaws.{counted_ended, not_none}
 use Rattle.dht_world.proofs.LineLaws.{in_time_append, legal_lines}
 
 pub grows_refl : (h : NameShape) → Grows h h
@@ -54,6 +51,7 @@ rely_claimed d s p q c r = record {
   known = λ g h e. e;
   used = λ f h. h;
   sealed = λ f h. h;
+  nameless = λ f h. h;
   later = omega arith;
   past = λ j l. refl;
 }
@@ -71,15 +69,16 @@ pub record IsStill (s : History) (x : Line) : Type 0 where
   pub requests : (tells s x).requests ≡ s.requests
   pub acts : (tells s x).acts ≡ s.acts
   pub changes : (tells s x).changes ≡ s.changes
+  pub answered : (tells s x).answered ≡ s.answered
 
 pub still_refused : (s : History) (n : ℕ) (cause : Cause) → IsStill s (Refused n cause)
-still_refused s n cause = record { tree = refl; weights = refl; run = refl; calls = refl; pending = refl; callers = refl; dead = refl; clean = λ q. q; requests = refl; acts = refl; changes = refl }
+still_refused s n cause = record { tree = refl; weights = refl; run = refl; calls = refl; pending = refl; callers = refl; dead = refl; clean = λ q. q; requests = refl; acts = refl; changes = refl; answered = refl }
 
 pub still_down : (s : History) (b : BrickNo) → IsStill s (WentDown b)
-still_down s b = record { tree = refl; weights = refl; run = refl; calls = refl; pending = refl; callers = refl; dead = refl; clean = λ q. absurd (let z : false ≡ true = q in cc); requests = refl; acts = refl; changes = refl }
+still_down s b = record { tree = refl; weights = refl; run = refl; calls = refl; pending = refl; callers = refl; dead = refl; clean = λ q. absurd (let z : false ≡ true = q in cc); requests = refl; acts = refl; changes = refl; answered = refl }
 
 pub still_up : (s : History) (b : BrickNo) → IsStill s (CameUp b)
-still_up s b = record { tree = refl; weights = refl; run = refl; calls = refl; pending = refl; callers = refl; dead = refl; clean = λ q. q; requests = refl; acts = refl; changes = refl }
+still_up s b = record { tree = refl; weights = refl; run = refl; calls = refl; pending = refl; callers = refl; dead = refl; clean = λ q. q; requests = refl; acts = refl; changes = refl; answered = refl }
 
 -- which bricks are down after a line more
 pub down_after : (past : List Line) (x : Line) (down : ℕ → Bool) → (tells (history_of past) x).down ≡ down → (history_of (past ++ x ∷ [])).down ≡ down
@@ -87,7 +86,7 @@ down_after past x down e = ap (λ (s : History). s.down) (lines_more start past 
 
 module _ {C : Type 0} (g : CallerGhosts C) (laws : TransitionLaws) (stable : (x : C) → IsStable (g.stage x)) where
   -- lines that may come, after which the world fits
-  pub at_by : (c : ℕ) (d e : Disk) (js ks : ℕ → List JournalEntry) (places after : List (Place C)) (ws : List ℕ) (m n : Counts) (past lines : List Line) → At g d js places ws m past → LegalFrom (history_of past) lines → (with_lines (history_of past) lines).owed ≡ None → InTimeFrom (history_of past) lines → Happens g c d e ks (history_of past) (with_lines (history_of past) lines) places after n → At g e ks after ws n (past ++ lines)
+  pub at_by : (c : ℕ) (d e : Disk) (js ks : ℕ → List JournalEntry) (places after : List (Place C)) (ws : List ℕ) (m n : Summary) (past lines : List Line) → At g d js places ws m past → LegalFrom (history_of past) lines → (with_lines (history_of past) lines).owed ≡ None → InTimeFrom (history_of past) lines → Happens g c d e ks (history_of past) (with_lines (history_of past) lines) places after n → At g e ks after ws n (past ++ lines)
   at_by c d e js ks places after ws m n past lines h legal owed in_time happens = record {
     legal = legal_lines past lines h.legal legal owed;
     in_time = in_time_append start past lines h.in_time in_time;
@@ -95,13 +94,13 @@ module _ {C : Type 0} (g : CallerGhosts C) (laws : TransitionLaws) (stable : (x 
   }
 
   -- a line that tells of nothing
-  still_happens : (d : Disk) (js : ℕ → List JournalEntry) (places : List (Place C)) (ws : List ℕ) (n : Counts) (s : History) (x : Line) → Fit g d js places ws n s → IsStill s x → Happens g 64 d d js s (with_line s x) places places (record n { lines = n.lines + 1 })
+  still_happens : (d : Disk) (js : ℕ → List JournalEntry) (places : List (Place C)) (ws : List ℕ) (n : Summary) (s : History) (x : Line) → Fit g d js places ws n s → IsStill s x → Happens g 64 d d js s (with_line s x) places places (record n { lines = n.lines + 1 })
   still_happens d js places ws n s x fit h =
-      let counts = fit.counts in
-      let size = counts.lines in
+      let summary = fit.summary in
+      let size = summary.lines in
       let calls = h.calls in
-      let fewer = counts.fewer in
-      let less = counts.less in
+      let fewer = summary.fewer in
+      let less = summary.less in
       let many = fit.many in
       record {
         transition = laws.line 64 d s (claims_of g places) x fit.kept fit.early (record {
@@ -113,10 +112,11 @@ module _ {C : Type 0} (g : CallerGhosts C) (laws : TransitionLaws) (stable : (x 
         });
         passes = record { weights = h.weights; calls = omega arith; clean = h.clean; dead = λ w ne. ap (λ (f : ℕ → Bool). f w) h.dead };
         logged = record { steps = λ b. fit.logged.steps b ∙ sym (ap (λ f. f b) h.acts); slots = λ b. fit.logged.slots b ∙ sym (ap (λ f. f b) h.changes) };
-        counts = record { run = h.run ∙ counts.run; calls = h.calls ∙ counts.calls; lines = omega arith; requests = h.requests ∙ counts.requests; fewer = omega arith; less = omega arith };
+        summary = record { run = h.run ∙ summary.run; calls = h.calls ∙ summary.calls; lines = omega arith; requests = h.requests ∙ summary.requests; answers = h.answered ∙ summary.answers; places = summary.places; fewer = omega arith; less = omega arith };
         counted = record {
           listed = λ c r e. subst (Rattle.dht_world.specs.Clients.IsListed c) (sym h.callers) (fit.counted.listed c r (sym (ap (λ (f : ℕ → Option PendingCall). f c) h.pending) ∙ e));
           numbered = λ c r e. (let l = fit.counted.numbered c r (sym (ap (λ (f : ℕ → Option PendingCall). f c) h.pending) ∙ e) in omega arith);
+          from_one = λ c r e. fit.counted.from_one c r (sym (ap (λ (f : ℕ → Option PendingCall). f c) h.pending) ∙ e);
           alone = λ c w r e first last ne. ap (λ (f : ℕ → Option PendingCall). f w) h.pending ∙ fit.counted.alone c w r (sym (ap (λ (f : ℕ → Option PendingCall). f c) h.pending) ∙ e) first (last ∙ h.calls) ne;
         };
         many = refl;
@@ -124,18 +124,18 @@ module _ {C : Type 0} (g : CallerGhosts C) (laws : TransitionLaws) (stable : (x 
         own = subst (λ (o : Option (Place C)). ClientFits g d (with_line s x) (claims_of g places) 64 o) (sym (none_at places 64 (omega arith))) tt;
       }
 
-  pub at_still : (d : Disk) (js : ℕ → List JournalEntry) (places : List (Place C)) (ws : List ℕ) (n : Counts) (past : List Line) (x : Line) → At g d js places ws n past → IsStill (history_of past) x → Follows (history_of past) x → (with_line (history_of past) x).owed ≡ None → InTime (history_of past) x → At g d js places ws (record n { lines = n.lines + 1 }) (past ++ x ∷ [])
+  pub at_still : (d : Disk) (js : ℕ → List JournalEntry) (places : List (Place C)) (ws : List ℕ) (n : Summary) (past : List Line) (x : Line) → At g d js places ws n past → IsStill (history_of past) x → Follows (history_of past) x → (with_line (history_of past) x).owed ≡ None → InTime (history_of past) x → At g d js places ws (record n { lines = n.lines + 1 }) (past ++ x ∷ [])
   at_still d js places ws n past x h still follows owed in_time =
       at_by 64 d d js js places places ws n (record n { lines = n.lines + 1 }) past (x ∷ []) h (follows, tt) owed (in_time, tt) (still_happens d js places ws n (history_of past) x h.fit still)
 
   -- an event that was refused
-  pub at_refused : (d : Disk) (js : ℕ → List JournalEntry) (places : List (Place C)) (ws : List ℕ) (n : Counts) (past : List Line) (line : ℕ) (cause : Cause) → At g d js places ws n past → At g d js places ws (record n { lines = n.lines + 1 }) (past ++ Refused line cause ∷ [])
+  pub at_refused : (d : Disk) (js : ℕ → List JournalEntry) (places : List (Place C)) (ws : List ℕ) (n : Summary) (past : List Line) (line : ℕ) (cause : Cause) → At g d js places ws n past → At g d js places ws (record n { lines = n.lines + 1 }) (past ++ Refused line cause ∷ [])
   at_refused d js places ws n past line cause h = at_still d js places ws n past (Refused line cause) h (still_refused (history_of past) line cause) h.legal.whole refl tt
 
-  pub at_down : (d : Disk) (js : ℕ → List JournalEntry) (places : List (Place C)) (ws : List ℕ) (n : Counts) (past : List Line) (b : BrickNo) → At g d js places ws n past → At g d js places ws (record n { lines = n.lines + 1 }) (past ++ WentDown b ∷ [])
+  pub at_down : (d : Disk) (js : ℕ → List JournalEntry) (places : List (Place C)) (ws : List ℕ) (n : Summary) (past : List Line) (b : BrickNo) → At g d js places ws n past → At g d js places ws (record n { lines = n.lines + 1 }) (past ++ WentDown b ∷ [])
   at_down d js places ws n past b h = at_still d js places ws n past (WentDown b) h (still_down (history_of past) b) h.legal.whole refl tt
 
-  pub at_up : (d : Disk) (js : ℕ → List JournalEntry) (places : List (Place C)) (ws : List ℕ) (n : Counts) (past : List Line) (b : BrickNo) → At g d js places ws n past → At g d js places ws (record n { lines = n.lines + 1 }) (past ++ CameUp b ∷ [])
+  pub at_up : (d : Disk) (js : ℕ → List JournalEntry) (places : List (Place C)) (ws : List ℕ) (n : Summary) (past : List Line) (b : BrickNo) → At g d js places ws n past → At g d js places ws (record n { lines = n.lines + 1 }) (past ++ CameUp b ∷ [])
   at_up d js places ws n past b h = at_still d js places ws n past (CameUp b) h (still_up (history_of past) b) h.legal.whole refl tt
 
   -- what is set at a client's place
@@ -143,22 +143,22 @@ module _ {C : Type 0} (g : CallerGhosts C) (laws : TransitionLaws) (stable : (x 
   own_set e t places c k l h = subst (λ (o : Option (Place C)). ClientFits g e t (claims_of g (slice_set places c k)) c o) (sym (get_set_same places c k l)) h
 
   -- a client died
-  pub at_died : (d e : Disk) (js : ℕ → List JournalEntry) (places : List (Place C)) (ws : List ℕ) (n : Counts) (past : List Line) (c : ℕ) → c < 64 → (history_of past).dead c ≡ false → FreesClient c d e → At g d js places ws n past → At g e js (slice_set places c Dead) ws (record n { lines = n.lines + 1 }) (past ++ Died (client c) ∷ [])
+  pub at_died : (d e : Disk) (js : ℕ → List JournalEntry) (places : List (Place C)) (ws : List ℕ) (n : Summary) (past : List Line) (c : ℕ) → c < 64 → (history_of past).dead c ≡ false → FreesClient c d e → At g d js places ws n past → At g e js (slice_set places c Dead) ws (record n { lines = n.lines + 1 }) (past ++ Died (client c) ∷ [])
   at_died d e js places ws n past c l living frees h =
       let s = history_of past in
       let t = with_line s (Died (client c)) in
       let fit = h.fit in
-      let counts = fit.counts in
-      let size = counts.lines in
-      let fewer = counts.fewer in
-      let less = counts.less in
+      let summary = fit.summary in
+      let size = summary.lines in
+      let fewer = summary.fewer in
+      let less = summary.less in
       let many = fit.many in
       let within : c < length places = omega arith in
       at_by c d e js js places (slice_set places c Dead) ws n (record n { lines = n.lines + 1 }) past (Died (client c) ∷ []) h ((h.legal.whole, living), tt) refl (tt, tt) (record {
         transition = subst (λ (q : ℕ → Claim). Transition c d s (claims_of g places) e t q) (claims_set g places c Dead within) (laws.death (client c) d e s (claims_of g places) fit.kept fit.early frees);
         passes = record { weights = refl; calls = omega arith; clean = λ q. absurd (let z : false ≡ true = q in cc); dead = λ w ne. put_other nat_eq exact_nat s.dead c true w ne };
         logged = record { steps = fit.logged.steps; slots = fit.logged.slots };
-        counts = record { run = counts.run; calls = counts.calls; lines = omega arith; requests = counts.requests; fewer = omega arith; less = omega arith };
+        summary = record { run = summary.run; calls = summary.calls; lines = omega arith; requests = summary.requests; answers = summary.answers; places = summary.places; fewer = omega arith; less = omega arith };
         counted = counted_ended s t c fit.counted refl refl refl;
         many = length-set places c Dead;
         same = λ w ne. get_set_other places c Dead w ne;
@@ -173,61 +173,8 @@ module _ {C : Type 0} (g : CallerGhosts C) (laws : TransitionLaws) (stable : (x 
   busy_claims x n busy = ap (λ (b : Bool). if b then (g.stage x).claims else no_claim) busy
 
   -- a client that claims nothing holds no lock, so it may claim any
-  may_begin : (d : Disk) (s : History) (p : ℕ → Claim) (c : ℕ) (new : Claim) → Rattle.dht_section.specs.Invariant.Invariant d s p → p c ≡ no_claim → new.copy ≡ None → MayClaim d.count (λ b key. holders d b key c) (p c) new
+  pub may_begin : (d : Disk) (s : History) (p : ℕ → Claim) (c : ℕ) (new : Claim) → Rattle.dht_section.specs.Invariant.Invariant d s p → p c ≡ no_claim → new.copy ≡ None → MayClaim d.count (λ b key. holders d b key c) (p c) new
   may_begin d s p c new kept none copy = record {
     locks = λ b key m l e. absurd (subst (λ (x : Claim). Listed x.locks b key) none ((kept.things.locks b key l).claimed c m e));
     copy = λ f dest. (let z : place_in new.copy f dest ≡ 0 = ap (λ o. place_in o f dest) copy in omega arith);
   }
-
-  -- a call was accepted
-  pub at_called : (d : Disk) (js : ℕ → List JournalEntry) (places : List (Place C)) (ws : List ℕ) (n : Counts) (past : List Line) (c : ℕ) (k : CallNo) (call : Call) (old new : Place C) → c < 64 → slice_get places c ≡ Some old → (v : Starts g old ws n.run k call new) → g.is_busy v.before ≡ false → k.0 ≡ n.calls + 1 → At g d js places ws n past → At g d js (slice_set places c new) ws (record n { calls = n.calls + 1; lines = n.lines + 1 }) (past ++ Called k (client c) call ∷ [])
-  at_called d js places ws n past c k call old new l was v idle ek h =
-      let s = history_of past in
-      let x = Called k (client c) call in
-      let t = with_line s x in
-      let fit = h.fit in
-      let counts = fit.counts in
-      let size = counts.lines in
-      let count = counts.calls in
-      let fewer = counts.fewer in
-      let less = counts.less in
-      let many = fit.many in
-      let within : c < length places = omega arith in
-      let p = claims_of g places in
-      let here : slice_get places c ≡ Some (Living v.before v.number) = was ∙ ap (λ (y : Place C). Some y) v.was in
-      let fits : ClientFits g d s p c (Some (Living v.before v.number)) = subst (ClientFits g d s p c) here (fit.each c) in
-      let none : s.pending c ≡ None = idle_is _ _ (g.is_busy v.before) idle fits.2 in
-      let r : PendingCall = accepted s.callers (s.size + 1) k call in
-      let one = laws.line c d s p x fit.kept fit.early (record {
-        tree = refl;
-        weights = refl;
-        calls = omega arith;
-        pending = λ w ne. put_other nat_eq exact_nat s.pending c (Some r) w ne;
-        own = λ o e fresh. inr (let z : r ≡ o = (let y : Some r ≡ Some o = sym (put_same nat_eq exact_nat s.pending c (Some r)) ∙ e in cc) in let y : k.0 ≡ o.number.0 = ap (λ (q : PendingCall). q.number.0) z in omega arith);
-      }) in
-      let claims = busy_claims v.after k v.busy in
-      let two = laws.claim c d t p (g.stage v.after).claims one.kept one.early (may_begin d t p c (g.stage v.after).claims one.kept (ap (claim_at g) here ∙ idle_claims v.before v.number idle) v.copy) in
-      let both = laws.compose c d d d s t t p p (put nat_eq p c (g.stage v.after).claims) fit.kept one two in
-      let new_is : new ≡ Living v.after k = v.is in
-      let set : put nat_eq p c (g.stage v.after).claims ≡ claims_of g (slice_set places c new) = ap (put nat_eq p c) (sym claims ∙ ap (λ (y : Place C). claim_at g (Some y)) (sym new_is)) ∙ claims_set g places c new within in
-      at_by c d d js js places (slice_set places c new) ws n (record n { calls = n.calls + 1; lines = n.lines + 1 }) past (x ∷ []) h ((h.legal.whole, omega arith, none), tt) refl (tt, tt) (record {
-        transition = subst (λ (q : ℕ → Claim). Transition c d s p d t q) set both;
-        passes = record { weights = refl; calls = omega arith; clean = λ q. q; dead = λ w ne. refl };
-        logged = record { steps = fit.logged.steps; slots = fit.logged.slots };
-        counts = record { run = counts.run; calls = omega arith; lines = omega arith; requests = counts.requests; fewer = omega arith; less = omega arith };
-        counted = counted_called s c k.0 call fit.counted (omega arith);
-        many = length-set places c new;
-        same = λ w ne. get_set_other places c new w ne;
-        own = own_set d t places c new within (subst (λ (y : Place C). ClientFits g d t (claims_of g (slice_set places c new)) c (Some y)) (sym new_is) (
-          fits.0,
-          v.same ∙ fits.1,
-          subst (λ (b : Bool). MatchBool b (Works g d t (claims_of g (slice_set places c new)) c v.after k) (t.pending c ≡ None)) (sym v.busy) (record {
-            mine = r;
-            runs = put_same nat_eq exact_nat s.pending c (Some r);
-            number = refl;
-            begun = omega arith;
-            knows = v.knows (scene d t (claims_of g (slice_set places c new)) (client c) r) (record { who = sym fits.1; weights = fit.same_weights; run = counts.run; number = refl; call = refl; fresh = refl });
-            in_time = λ u. (let bound = v.variant in subst (λ (y : List ℕ). 0 + (g.stage v.after).variant ≤ cost (length y) call) (sym fit.same_weights) (omega arith));
-          }),
-        ));
-      })

@@ -35,8 +35,11 @@ block_refused s n e cause is = record {
 pub head_accepted : (s : History) (n : ℕ) (e : Event) (line : Line) → cause_of s e ≡ None → Accepted s e line → Head s n e line
 head_accepted s n e line is h = subst (λ (o : Option Cause). MatchOption o (Accepted s e line) (λ x. line ≡ Refused n x)) (sym is) h
 
-pub block_alone : (s : History) (n : ℕ) (e : Event) (line : Line) → cause_of s e ≡ None → Accepted s e line → IsUnder line [] → Block s n e (line ∷ [])
-block_alone s n e line is h under = record { first = line; more = []; all = refl; is_head = head_accepted s n e line is h; is_under = under }
+pub block_under : (s : History) (n : ℕ) (e : Event) (line : Line) (more : List Line) → cause_of s e ≡ None → Accepted s e line → IsUnder s line more → Block s n e (line ∷ more)
+block_under s n e line more is h under = record { first = line; more = more; all = refl; is_head = head_accepted s n e line is h; is_under = under }
+
+pub block_alone : (s : History) (n : ℕ) (e : Event) (line : Line) → cause_of s e ≡ None → Accepted s e line → IsUnder s line [] → Block s n e (line ∷ [])
+block_alone s n e line is h under = block_under s n e line [] is h under
 
 -- under a step stands its tree line, or none, and then the end
 under_on : (k : CallNo) (c : ClientNo) (o : Option TreeStep) → IsUnderStep k c (tree_lines k o)

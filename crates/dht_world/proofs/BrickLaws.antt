@@ -16,9 +16,10 @@ use Rattle.dht_brick.specs.Events.{freed}
 use Rattle.dht_brick.specs.Rows.{row}
 use Rattle.dht_brick.specs.Within.{MayBeSent}
 use Rattle.dht_brick.specs.declared.journal.JournalEntry.{JournalEntry}
-use Rattle.dht_brick.specs.declared.requests.NameRequest.TheVariants.{Look, Dirinfo, Create}
+use Rattle.dht_brick.specs.declared.requests.FileRequest.TheVariants.{Drop}
+use Rattle.dht_brick.specs.declared.requests.NameRequest.TheVariants.{Look, Dirinfo, Create, Unlink}
 use Rattle.dht_brick.specs.declared.requests.Request.{Request}
-use Rattle.dht_brick.specs.declared.requests.Request.TheVariants.{Lock, Unlock, OnNames, OnFile}
+use Rattle.dht_brick.specs.declared.requests.Request.TheVariants.{Lock, Unlock, Seal, OnNames, OnFile}
 use Rattle.dht_brick.specs.declared.replies.Reply.{Reply}
 use Rattle.dht_brick.specs.declared.replies.Reply.TheVariants.{Down, Failed}
 use Rattle.dht_section.specs.declared.machine.Ask.{Ask}
@@ -26,7 +27,7 @@ use Rattle.dht_section.specs.Permits.{May}
 use Rattle.dht_section.specs.Scene.{Scene}
 use Rattle.dht_invariant.specs.Transition.{FreesClient}
 use Rattle.dht_world.proofs.LineLaws.{nat_cases}
-use Rattle.dht_world.specs.Bricks.{disk_of, journals_of, contents_at, journal_at, IsReady, ReadyAt, AreReady, volume_of, without_client, ServedAt}
+use Rattle.dht_world.specs.Bricks.{nothing, disk_of, journals_of, contents_at, journal_at, IsReady, ReadyAt, AreReady, volume_of, without_client, ServedAt}
 
 pub get_set_same : {A : Type 0} (xs : List A) (c : ℕ) (v : A) → c < length xs → slice_get (slice_set xs c v) c ≡ Some v
 get_set_same [] c v h = absurd (omega arith)
@@ -299,6 +300,10 @@ same_disk_at state bricks b old new l was h = shows_disk state bricks b old new 
 pub same_journals_at : {B : Type 0} (state : B → BrickState) (bricks : List B) (b : ℕ) (old new : B) → b < length bricks → old ≡ get_or bricks b old → state new ≡ state old → journals_of state (slice_set bricks b new) ≡ journals_of state bricks
 same_journals_at state bricks b old new l was h = shows_journals state bricks b old new l was (ap (λ (s : BrickState). s.journal) h)
 
+-- where there is no brick there is nothing
+pub nothing_beyond : {B : Type 0} (state : B → BrickState) (bricks : List B) (b : ℕ) → length bricks ≤ b → (disk_of state bricks).brick b ≡ nothing
+nothing_beyond state bricks b l = ap (contents_at state) (none_at bricks b l)
+
 -- ---- a brick whose contents and journal are as they were
 
 pub up_disk_at : {B : Type 0} (state : B → BrickState) (bricks : List B) (b : ℕ) (old new : B) (v : Bool) → b < length bricks → old ≡ get_or bricks b old → state new ≡ record (state old) { is_up = v } → disk_of state (slice_set bricks b new) ≡ disk_of state bricks
@@ -314,8 +319,11 @@ may_be_sent s b count (Unlock key) h = tt
 may_be_sent s b count (OnNames (Look d n)) h = tt
 may_be_sent s b count (OnNames (Dirinfo d)) h = tt
 may_be_sent s b count (OnNames (Create d n f)) h = tt
+may_be_sent s b count (OnNames (Unlink d n f)) h = tt
 may_be_sent s b count (OnNames q) h = absurd h.0
+may_be_sent s b count (OnFile (Drop f)) h = tt
 may_be_sent s b count (OnFile q) h = absurd h.0
+may_be_sent s b count (Seal f) h = tt
 may_be_sent s b count q h = absurd h
 
 -- the states of the bricks, where one of them was set to another in the same state

@@ -3,9 +3,12 @@ use Rattle.std.proofs.Common.{◌≡◌, ◌<◌, ℕ, Bool, true, false, refl, 
 use Rattle.std.specs.Prelude.{Option, Some, None, is_some, nat_lt, MatchBool, if◌then◌else◌, List, slice_get}
 use Rattle.std.proofs.lemmas.Bool.{ltb-true, lt-ltb}
 use Rattle.std.proofs.lemmas.Option.{slice_get_within}
+use Rattle.dht_types.specs.Calls.{named_call}
 use Rattle.dht_types.specs.History.{History, PendingCall}
 use Rattle.dht_types.specs.declared.calls.Call.{Call}
+use Rattle.dht_types.specs.declared.events.Directory.{Directory}
 use Rattle.dht_types.specs.declared.events.Event.TheVariants as event
+use Rattle.dht_types.specs.declared.identifiers.Gfid.{Gfid}
 use Rattle.dht_types.specs.declared.lines.Cause.{Cause}
 use Rattle.dht_types.specs.declared.lines.Cause.TheVariants as cause
 use Rattle.dht_section.specs.Claims.{Claim}
@@ -16,8 +19,9 @@ use Rattle.dht_invariant.proofs.Basics.{not_true}
 use Rattle.dht_world.proofs.BrickLaws.{there_is}
 use Rattle.dht_world.proofs.CountLaws.{not_none}
 use Rattle.dht_world.specs.Clients.{Works, ClientFits, claims_of, place_cause, IsBusy, IsIdle}
-use Rattle.dht_world.specs.Following.{client_cause, call_cause, step_cause, brick_cause, cause_of}
-use Rattle.dht_world.specs.World.{Counts, Fit}
+use Rattle.dht_world.specs.Answers.{answered_in}
+use Rattle.dht_world.specs.Following.{client_cause, answer_cause, call_cause, step_cause, brick_cause, cause_of}
+use Rattle.dht_world.specs.World.{Summary, Fit}
 use Rattle.dht_world.specs.declared.places.Place.{Place}
 use Rattle.dht_world.specs.declared.places.Place.TheVariants.{Living, Dead}
 
@@ -44,17 +48,17 @@ module _ {C : Type 0} (g : CallerGhosts C) where
       ∙ ap (λ (b : Bool). if b then Some cause.Dead else by_pending idle busy (s.pending c)) h.0)
 
   -- of a client
-  client_cause_is : (d : Disk) (js : ℕ → List JournalEntry) (places : List (Place C)) (ws : List ℕ) (n : Counts) (s : History) (c : ℕ) (idle busy : Option Cause) → Fit g d js places ws n s → place_cause g (slice_get places c) idle busy ≡ client_cause s c (by_pending idle busy (s.pending c))
+  client_cause_is : (d : Disk) (js : ℕ → List JournalEntry) (places : List (Place C)) (ws : List ℕ) (n : Summary) (s : History) (c : ℕ) (idle busy : Option Cause) → Fit g d js places ws n s → place_cause g (slice_get places c) idle busy ≡ client_cause s c (by_pending idle busy (s.pending c))
   client_cause_is d js places ws n s c idle busy h =
       let many = h.many in
       cause_by d s (claims_of g places) c (slice_get places c) (nat_lt c 64) idle busy (h.each c)
       (λ e. not_true (nat_lt c 64) (λ b. (let l = ltb-true c 64 b in there_is places c (omega arith) e)))
       (λ q e. lt-ltb c 64 (let l = slice_get_within places c q e in omega arith))
 
-  call_is : (o : Option PendingCall) → by_pending None (Some cause.Busy) o ≡ call_cause o
+  call_is : (o : Option PendingCall) (what : Option (Call Gfid)) → by_pending (answer_cause what) (Some cause.Busy) o ≡ call_cause o what
   unfolding by_pending
-  call_is None = refl
-  call_is (Some r) = refl
+  call_is None what = refl
+  call_is (Some r) what = refl
 
   step_is : (o : Option PendingCall) → by_pending (Some cause.Idle) None o ≡ step_cause o
   unfolding by_pending
@@ -66,9 +70,12 @@ module _ {C : Type 0} (g : CallerGhosts C) where
   die_is None = refl
   die_is (Some r) = refl
 
-  module _ (d : Disk) (js : ℕ → List JournalEntry) (places : List (Place C)) (ws : List ℕ) (n : Counts) (s : History) (h : Fit g d js places ws n s) where
-    pub cause_of_call : (c : ℕ) (call : Call) → place_cause g (slice_get places c) None (Some cause.Busy) ≡ cause_of s (event.Call c call)
-    cause_of_call c call = client_cause_is d js places ws n s c None (Some cause.Busy) h ∙ ap (client_cause s c) (call_is (s.pending c))
+  module _ (d : Disk) (js : ℕ → List JournalEntry) (places : List (Place C)) (ws : List ℕ) (n : Summary) (s : History) (h : Fit g d js places ws n s) where
+    pub cause_of_call : (c : ℕ) (call : Call Directory) → place_cause g (slice_get places c) (answer_cause (named_call (answered_in n.answers) call)) (Some cause.Busy) ≡ cause_of s (event.Call c call)
+    cause_of_call c call =
+        client_cause_is d js places ws n s c (answer_cause (named_call (answered_in n.answers) call)) (Some cause.Busy) h
+        ∙ (ap (λ (f : ℕ → Option Gfid). client_cause s c (by_pending (answer_cause (named_call f call)) (Some cause.Busy) (s.pending c))) (sym h.summary.answers)
+        ∙ ap (client_cause s c) (call_is (s.pending c) (named_call s.answered call)))
 
     pub cause_of_step : (c : ℕ) → place_cause g (slice_get places c) (Some cause.Idle) None ≡ cause_of s (event.Step c)
     cause_of_step c = client_cause_is d js places ws n s c (Some cause.Idle) None h ∙ ap (client_cause s c) (step_is (s.pending c))
@@ -97,9 +104,11 @@ module _ {C : Type 0} (g : CallerGhosts C) where
       yes true e = refl
       yes false e = absurd (let z : Some cause.Unknown ≡ None = e in cc)
 
-  pub no_call : (o : Option PendingCall) → call_cause o ≡ None → o ≡ None
-  no_call None e = refl
-  no_call (Some r) e = absurd (let z : Some cause.Busy ≡ None = e in cc)
+  -- none of its calls is pending, and the directory of its call is known
+  pub no_call : (o : Option PendingCall) (what : Option (Call Gfid)) → call_cause o what ≡ None → (o ≡ None) × (is_some what ≡ true)
+  no_call None (Some what) e = (refl, refl)
+  no_call None None e = absurd (let z : Some cause.Answer ≡ None = e in cc)
+  no_call (Some r) what e = absurd (let z : Some cause.Busy ≡ None = e in cc)
 
   pub some_call : (o : Option PendingCall) → step_cause o ≡ None → is_some o ≡ true
   some_call None e = absurd (let z : Some cause.Idle ≡ None = e in cc)
@@ -121,11 +130,11 @@ module _ {C : Type 0} (g : CallerGhosts C) where
       by true w = refl
       by false w = absurd (let z : false ≡ true = sym (ap is_some w) ∙ some in cc)
 
-  module _ (d : Disk) (js : ℕ → List JournalEntry) (places : List (Place C)) (ws : List ℕ) (n : Counts) (s : History) (h : Fit g d js places ws n s) where
+  module _ (d : Disk) (js : ℕ → List JournalEntry) (places : List (Place C)) (ws : List ℕ) (n : Summary) (s : History) (h : Fit g d js places ws n s) where
     -- a call that is accepted is of a client that is idle, and a step of one that is busy
-    pub idle_at : (c : ℕ) (call : Call) (q : Place C) → slice_get places c ≡ Some q → cause_of s (event.Call c call) ≡ None → IsIdle g q
-    idle_at c call q here e = (let a = accepted_client s c (call_cause (s.pending c)) e in
-        idle_place d s (claims_of g places) c q (subst (ClientFits g d s (claims_of g places) c) here (h.each c)) a.1 (no_call (s.pending c) a.2))
+    pub idle_at : (c : ℕ) (call : Call Directory) (q : Place C) → slice_get places c ≡ Some q → cause_of s (event.Call c call) ≡ None → IsIdle g q
+    idle_at c call q here e = (let a = accepted_client s c (call_cause (s.pending c) (named_call s.answered call)) e in
+        idle_place d s (claims_of g places) c q (subst (ClientFits g d s (claims_of g places) c) here (h.each c)) a.1 (no_call (s.pending c) (named_call s.answered call) a.2).0)
 
     pub busy_at : (c : ℕ) (q : Place C) → slice_get places c ≡ Some q → cause_of s (event.Step c) ≡ None → IsBusy g q
     busy_at c q here e = (let a = accepted_client s c (step_cause (s.pending c)) e in

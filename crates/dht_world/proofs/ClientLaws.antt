@@ -16,7 +16,7 @@ use Rattle.dht_world.proofs.LineLaws.{nat_cases}
 use Rattle.dht_invariant.specs.Transition.{scene, Transition}
 use Rattle.dht_world.specs.Bricks.{Logged}
 use Rattle.dht_world.specs.Clients.{client, claim_at, claims_of, Works, ClientFits, CallsCounted}
-use Rattle.dht_world.specs.World.{Counts, AreCounts, Fit, HoldersCall}
+use Rattle.dht_world.specs.World.{Summary, IsSummary, Fit, HoldersCall}
 use Rattle.dht_world.specs.declared.places.Place.{Place}
 use Rattle.dht_world.specs.declared.places.Place.TheVariants.{Living, Dead}
 use Rattle.dht_world.proofs.CountLaws.{Passes, undisturbed_before}
@@ -51,15 +51,15 @@ module _ {C : Type 0} (g : CallerGhosts C) where
   claims_call d s claims c (Some (Living k n)) h i key l = claims_call_by d s claims c k n (g.is_busy k) (g.stage k).claims h.2 i key l
 
   -- each lock is held by a client that has a pending call
-  pub holders_call : (d : Disk) (js : ℕ → List JournalEntry) (places : List (Place C)) (ws : List ℕ) (n : Counts) (s : History) → Fit g d js places ws n s → HoldersCall d s
+  pub holders_call : (d : Disk) (js : ℕ → List JournalEntry) (places : List (Place C)) (ws : List ℕ) (n : Summary) (s : History) → Fit g d js places ws n s → HoldersCall d s
   holders_call d js places ws n s h b key c m l e = claims_call d s (claims_of g places) c (slice_get places c) (h.each c) b key ((h.kept.things.locks b key l).claimed c m e)
 
   -- what happened: at most the place of this client changed, and what it claims
-  pub record Happens (c : ℕ) (d e : Disk) (ks : ℕ → List JournalEntry) (s t : History) (places after : List (Place C)) (n : Counts) : Type 0 where
+  pub record Happens (c : ℕ) (d e : Disk) (ks : ℕ → List JournalEntry) (s t : History) (places after : List (Place C)) (n : Summary) : Type 0 where
     pub transition : Transition c d s (claims_of g places) e t (claims_of g after)
     pub passes : Passes c s t
     pub logged : Logged ks t
-    pub counts : AreCounts n t
+    pub summary : IsSummary n t
     pub counted : CallsCounted t
     pub many : length after ≡ length places
     pub same : (w : ℕ) → w ≢ c → slice_get after w ≡ slice_get places w
@@ -74,6 +74,7 @@ module _ {C : Type 0} (g : CallerGhosts C) where
           mine = h.mine;
           runs = tr.pending w ne ∙ h.runs;
           number = h.number;
+          named = h.named;
           begun = omega arith;
           knows = stable k (scene d s p (client w) h.mine) (scene e t q (client w) h.mine) h.knows (tr.others (client w) h.mine ne);
           in_time = λ u. subst (λ (ws : List ℕ). h.mine.steps + (g.stage k).variant ≤ cost (length ws) h.mine.call) (sym ps.weights)
@@ -86,13 +87,13 @@ module _ {C : Type 0} (g : CallerGhosts C) where
     client_on d e s t p q c w (Some Dead) ne tr ps counted h = (ps.dead w ne ∙ h.0, tr.pending w ne ∙ h.1)
     client_on d e s t p q c w (Some (Living k n)) ne tr ps counted h = (ps.dead w ne ∙ h.0, h.1, works_on d e s t p q c w k n (g.is_busy k) ne tr ps counted h.2)
 
-    pub fit_after : (c : ℕ) (d e : Disk) (js ks : ℕ → List JournalEntry) (s t : History) (places after : List (Place C)) (ws : List ℕ) (m n : Counts) → Fit g d js places ws m s → Happens c d e ks s t places after n → Fit g e ks after ws n t
+    pub fit_after : (c : ℕ) (d e : Disk) (js ks : ℕ → List JournalEntry) (s t : History) (places after : List (Place C)) (ws : List ℕ) (m n : Summary) → Fit g d js places ws m s → Happens c d e ks s t places after n → Fit g e ks after ws n t
     fit_after c d e js ks s t places after ws m n fit h = record {
       kept = h.transition.kept;
       early = h.transition.early;
       logged = h.logged;
       same_weights = h.passes.weights ∙ fit.same_weights;
-      counts = h.counts;
+      summary = h.summary;
       counted = h.counted;
       many = h.many ∙ fit.many;
       each = λ w. elim (nat_cases w c) [

@@ -6,6 +6,7 @@ use Rattle.dht_types.proofs.PutLaws.{put_same, put_other, exact_nat}
 use Rattle.dht_types.specs.History.{History, PendingCall, IsUndisturbed, accepted, without, is_empty, with_line}
 use Rattle.dht_types.specs.declared.calls.Call.{Call}
 use Rattle.dht_types.specs.declared.identifiers.CallNo.{CallNo}
+use Rattle.dht_types.specs.declared.identifiers.Gfid.{Gfid}
 use Rattle.dht_types.specs.declared.lines.Line.TheVariants.{Called}
 use Rattle.dht_world.proofs.LineLaws.{nat_cases}
 use Rattle.dht_world.specs.Clients.{IsListed, CallsCounted}
@@ -59,12 +60,13 @@ counted_ended s t c h pending callers calls =
     record {
       listed = λ w r e. subst (IsListed w) (sym callers) (listed_without c s.callers w (was w r e).0 (h.listed w r (was w r e).1));
       numbered = λ w r e. (let l = h.numbered w r (was w r e).1 in omega arith);
+      from_one = λ w r e. h.from_one w r (was w r e).1;
       alone = λ x w r e first last ne. none_if (t.pending w) (λ q m. not_none (s.pending w) q (h.alone x w r (was x r e).1 first (last ∙ calls) ne) (was w q m).1);
     }
 
 -- ---- a call was accepted
 
-pub counted_called : (s : History) (c k : ℕ) (call : Call) → CallsCounted s → k ≡ s.calls + 1 → CallsCounted (with_line s (Called (record { 0 = k }) (record { 0 = c }) call))
+pub counted_called : (s : History) (c k : ℕ) (call : Call Gfid) → CallsCounted s → k ≡ s.calls + 1 → CallsCounted (with_line s (Called (record { 0 = k }) (record { 0 = c }) call))
 counted_called s c k call h ek =
     let n : CallNo = record { 0 = k } in
     let new : PendingCall = accepted s.callers (s.size + 1) n call in
@@ -79,6 +81,10 @@ counted_called s c k call h ek =
       numbered = λ w r e. elim (cases w r e) [
         | inl q ↦ (let z : new ≡ r = (let y : Some new ≡ Some r = q.1 in cc) in let l : k ≡ r.number.0 = ap (λ (x : PendingCall). x.number.0) z in omega arith)
         | inr q ↦ (let l = h.numbered w r q.1 in omega arith)
+      ];
+      from_one = λ w r e. elim (cases w r e) [
+        | inl q ↦ (let z : new ≡ r = (let y : Some new ≡ Some r = q.1 in cc) in let l : k ≡ r.number.0 = ap (λ (x : PendingCall). x.number.0) z in omega arith)
+        | inr q ↦ h.from_one w r q.1
       ];
       alone = λ x w r e first last ne. elim (cases x r e) [
         | inl q ↦ (let z : new ≡ r = (let y : Some new ≡ Some r = q.1 in cc) in
@@ -110,6 +116,7 @@ counted_went s t c mine new h runs pending callers calls number alone =
     record {
       listed = λ w r e. subst (IsListed w) (sym callers) (h.listed w (was w r e).0 (was w r e).1);
       numbered = λ w r e. (let b = was w r e in let l = h.numbered w b.0 b.1 in let n = b.2 in omega arith);
+      from_one = λ w r e. (let b = was w r e in let l = h.from_one w b.0 b.1 in let n = b.2 in omega arith);
       alone = λ x w r e first last ne. (let b = was x r e in
           none_if (t.pending w) (λ q m. (let a = was w q m in not_none (s.pending w) a.0 (h.alone x w b.0 b.1 (sym b.3 ∙ first) (sym b.2 ∙ (last ∙ calls)) ne) a.1)));
     }

@@ -1,5 +1,7 @@
 pub mod BrickLaws
 pub mod LineLaws
+pub mod AnsweredLaws
+pub mod RefusalLaws
 pub mod CountLaws
 pub mod ClientLaws
 pub mod StepLaws

@@ -21,6 +21,7 @@ use Rattle.dht_world.specs.Following.{Block}
 use Rattle.dht_world.specs.World.{At}
 use Rattle.dht_world.specs.declared.places.Place.{Place}
 use Rattle.dht_world.specs.declared.places.Place.TheVariants.{Living, Dead}
+use Rattle.dht_world.proofs.AnsweredLaws.{none_answered}
 use Rattle.dht_world.proofs.CountLaws.{not_none}
 
 -- new bricks are new, and where there is no brick there is nothing
@@ -47,7 +48,7 @@ module _ {C : Type 0} (g : CallerGhosts C) where
   new_fits d s p c (Some (Living x n)) living none h = (living, h.0, subst (λ (b : Bool). MatchBool b (Works g d s p c x n) (s.pending c ≡ None)) (sym h.1) none)
 
   -- before the first event after the volume line
-  pub at_start : (d : Disk) (js : ℕ → List JournalEntry) (places : List (Place C)) (ws : List ℕ) → AreNewborn ws d js → HasWeight ws → d.count ≡ length ws → 0 < d.count → d.count ≤ 32 → length places ≡ 64 → AreNewClients g places → At g d js places ws (record { run = 1; calls = 0; lines = 1; requests = 0 }) (Volume ws ∷ [])
+  pub at_start : (d : Disk) (js : ℕ → List JournalEntry) (places : List (Place C)) (ws : List ℕ) → AreNewborn ws d js → HasWeight ws → d.count ≡ length ws → 0 < d.count → d.count ≤ 32 → length places ≡ 64 → AreNewClients g places → At g d js places ws (record { run = 1; calls = 0; lines = 1; requests = 0; answers = [] }) (Volume ws ∷ [])
   at_start d js places ws h heavy count some few many idle =
       let s = with_line start (Volume ws) in
       let new = meet ws d (are_new ws d js h) heavy count some few in
@@ -60,10 +61,11 @@ module _ {C : Type 0} (g : CallerGhosts C) where
           early = new.1;
           logged = record { steps = λ b. ap (map act_of) (h.journals b); slots = λ b. ap changed_slots (h.journals b) };
           same_weights = refl;
-          counts = record { run = refl; calls = refl; lines = refl; requests = refl; fewer = omega arith; less = omega arith };
+          summary = record { run = refl; calls = refl; lines = refl; requests = refl; answers = none_answered; places = refl; fewer = omega arith; less = omega arith };
           counted = record {
             listed = λ c r e. absurd (not_none (s.pending c) r refl e);
             numbered = λ c r e. absurd (not_none (s.pending c) r refl e);
+            from_one = λ c r e. absurd (not_none (s.pending c) r refl e);
             alone = λ c w r e first last ne. refl;
           };
           many = many;

@@ -1,9 +1,9 @@
 -- What requests and their replies come to: which of them are a step of the tree, which wait, and when an unlock or a lock is carried out.
 use Rattle.std.proofs.Common.{◌≡◌, ◌≢◌, ◌≤◌, ◌↔◌, ℕ, zero, suc, Bool, true, false, List, ◌∷◌, refl, sym, ap, ◌∙◌, subst, length, arith}
-use Rattle.std.specs.Prelude.{Option, Some, None, is_some, not, ◌&&◌, nat_eq, if◌then◌else◌}
+use Rattle.std.specs.Prelude.{Option, Some, None, is_some, not, ◌&&◌, ◌==◌, nat_eq, if◌then◌else◌}
 use Rattle.dht_types.specs.History.{slot_of, is_change, IsOf}
 use Rattle.dht_types.specs.declared.calls.TreeStep.{TreeStep}
-use Rattle.dht_types.specs.declared.calls.TreeStep.TheVariants.{AddFile}
+use Rattle.dht_types.specs.declared.calls.TreeStep.TheVariants.{AddFile, RemoveFile}
 use Rattle.dht_types.specs.declared.identifiers.CallNo.{CallNo}
 use Rattle.dht_types.specs.declared.identifiers.ClientNo.{ClientNo}
 use Rattle.dht_types.specs.declared.lines.ReplyKind.{ReplyKind}
@@ -12,28 +12,35 @@ use Rattle.dht_types.specs.declared.lines.RequestKind.TheVariants as request
 use Rattle.dht_types.specs.declared.locks.Key.{Key}
 use Rattle.dht_types.specs.declared.locks.Mode.{Mode}
 use Rattle.dht_types.specs.declared.stored.DirRecord.{DirRecord}
+use Rattle.dht_types.specs.declared.stored.Record.{Record}
+use Rattle.dht_types.specs.declared.stored.Record.TheVariants.{Live}
 use Rattle.dht_types.specs.declared.stored.Slot.{Slot}
+use Rattle.dht_types.specs.declared.identifiers.Gfid.{Gfid}
 use Rattle.dht_types.proofs.PutLaws.{exact_nat}
 use Rattle.dht_types.specs.Gfid.{Entry}
 use Rattle.dht_brick.specs.Bricks.{ServesOrFails, is_unreachable}
-use Rattle.dht_brick.specs.Contents.{Contents, Store, Locks, dir, slot}
+use Rattle.dht_brick.specs.Contents.{Contents, Store, Opens, Locks, dir, slot, file}
+use Rattle.dht_brick.specs.FileRows.{file_row}
 use Rattle.dht_brick.specs.Kinds.{kind_of, name_kind, file_kind, reply_kind}
-use Rattle.dht_brick.specs.Links.{is_occupied}
+use Rattle.dht_brick.specs.Links.{is_occupied, links}
 use Rattle.dht_brick.specs.LockRows.{lowest, first_of, keeps_out, hold_excludes, awaited, unless_awaited, held}
 use Rattle.dht_brick.specs.Memory.{NeverTakesMemory}
 use Rattle.dht_brick.specs.NameRows.{name_row, on_slot, slot_row, slot_change, if_empty}
 use Rattle.dht_brick.specs.Named.{named, name_named}
 use Rattle.dht_brick.specs.Outcome.{Outcome, Do, Refuse, Await, in_dir, within}
-use Rattle.dht_brick.specs.Rows.{row, with_store, with_locks}
+use Rattle.dht_brick.specs.Parts.{without_file}
+use Rattle.dht_brick.specs.OpenRows.{seal_row, registrations, sealed}
+use Rattle.dht_brick.specs.Rows.{row, with_store, with_opens, with_locks}
 use Rattle.dht_brick.specs.declared.replies.Given.TheVariants as given
+use Rattle.dht_brick.specs.declared.replies.Why.TheVariants as why
 use Rattle.dht_brick.specs.declared.replies.Reply.{Reply}
 use Rattle.dht_brick.specs.declared.replies.Reply.TheVariants.{Ok as Carried, Refused as Declined, Wait, Down, Failed, NoMemory}
 use Rattle.dht_brick.specs.declared.requests.FileRequest.{FileRequest}
-use Rattle.dht_brick.specs.declared.requests.FileRequest.TheVariants.{Read}
+use Rattle.dht_brick.specs.declared.requests.FileRequest.TheVariants.{Read, Drop}
 use Rattle.dht_brick.specs.declared.requests.NameRequest.{NameRequest}
-use Rattle.dht_brick.specs.declared.requests.NameRequest.TheVariants.{Look, Page, Dirinfo, SetLayout, DropDir, Create, Orphans}
+use Rattle.dht_brick.specs.declared.requests.NameRequest.TheVariants.{Look, Page, Dirinfo, SetLayout, DropDir, Create, Unlink, Orphans}
 use Rattle.dht_brick.specs.declared.requests.Request.{Request}
-use Rattle.dht_brick.specs.declared.requests.Request.TheVariants.{Lock, Unlock, OnNames, OnFile}
+use Rattle.dht_brick.specs.declared.requests.Request.TheVariants.{Lock, Unlock, Seal, OnNames, OnFile}
 use Rattle.dht_brick.proofs.LockLaws.{free_locks_are_granted}
 use Rattle.dht_section.specs.Moves.{IsUnlock, step_of}
 use Rattle.dht_section.specs.Permits.{Permitted, May}
@@ -61,6 +68,8 @@ file_changes q r = refl
 pub change_is : (q : Request) (r : Reply) → is_change (kind_of q) (reply_kind r) ≡ is_some (step_of q r)
 change_is (OnNames (Create d n f)) (Carried g) = refl
 change_is (OnNames (Create d n f)) r = refl
+change_is (OnNames (Unlink d n f)) (Carried g) = refl
+change_is (OnNames (Unlink d n f)) r = refl
 change_is (OnFile q) (Carried g) = file_changes q _
 change_is (OnFile q) r = file_changes q _
 change_is q (Carried g) = refl
@@ -71,12 +80,18 @@ pub of_step : (q : Request) (r : Reply) (x : TreeStep) → step_of q r ≡ Some 
 of_step (OnNames (Create d n f)) (Carried g) x e =
     let w : AddFile d n f ≡ x = (let z : Some (AddFile d n f) ≡ Some x = e in cc) in
     subst (λ (y : TreeStep). IsOf request.Create y × (slot_of y ≡ (d, n))) w (tt, refl)
+of_step (OnNames (Unlink d n f)) (Carried g) x e =
+    let w : RemoveFile d n ≡ x = (let z : Some (RemoveFile d n) ≡ Some x = e in cc) in
+    subst (λ (y : TreeStep). IsOf request.Unlink y × (slot_of y ≡ (d, n))) w (tt, refl)
 of_step q (Carried g) x e = absurd (let z : None ≡ Some x = e in cc)
 of_step q r x e = absurd (let z : None ≡ Some x = e in cc)
 
 may_want : (s : Scene) (b : ℕ) (q : Request) (r : Reply) (x : TreeStep) → May s b q → step_of q r ≡ Some x → Wants s x
 may_want s b (OnNames (Create d n f)) (Carried g) x m e =
     let w : AddFile d n f ≡ x = (let z : Some (AddFile d n f) ≡ Some x = e in cc) in
+    subst (Wants s) w m.1.wants
+may_want s b (OnNames (Unlink d n f)) (Carried g) x m e =
+    let w : RemoveFile d n ≡ x = (let z : Some (RemoveFile d n) ≡ Some x = e in cc) in
     subst (Wants s) w m.1.wants
 may_want s b q (Carried g) x m e = absurd (let z : None ≡ Some x = e in cc)
 may_want s b q r x m e = absurd (let z : None ≡ Some x = e in cc)
@@ -125,6 +140,19 @@ no_wait_name bricks (DropDir d n g) s = no_wait_in_dir (dir s d) _ (λ r. no_wai
 no_wait_name bricks (Orphans after) s = refl
 no_wait_name bricks q s = no_wait_in_dir (dir s (name_named q).0) _ (λ r. no_wait_slot q s (name_named q) _)
 
+no_wait_if : {A : Type 0} (b : Bool) (x y : Outcome A) → is_await x ≡ false → is_await y ≡ false → is_await (if b then x else y) ≡ false
+no_wait_if true x y ex ey = ex
+no_wait_if false x y ex ey = ey
+
+no_wait_drop : (bricks : List (List ℕ)) (f : Gfid) (s : Store) (r : Option Record) → file s f ≡ r → is_await (file_row bricks (Drop f) s) ≡ false
+unfolding is_await
+no_wait_drop bricks f s (Some (Live hop bytes)) e = rw e (no_wait_if (links s.slots f == 0) (Do given.Nothing (without_file s f)) (Refuse (why.Links (links s.slots f))) refl refl)
+no_wait_drop bricks f s r e = rw e refl
+
+no_wait_seal : (f : Gfid) (o : Opens) → is_await (seal_row f o) ≡ false
+unfolding is_await
+no_wait_seal f o = no_wait_if (registrations o f == 0) (Do given.Nothing (sealed o f)) (Refuse (why.Open (registrations o f))) refl refl
+
 not_await : {A : Type 0} (o : Outcome A) (h : ClientNo) → is_await o ≡ false → o ≡ Await h → ⊥
 unfolding is_await
 not_await o h e k = let z : false ≡ true = sym e ∙ ap is_await k in cc
@@ -140,7 +168,9 @@ unfolding is_await
 waits_by s b bricks client call (Lock key mode) c h m e = record { key = key; mode = mode; is = refl }
 waits_by s b bricks client call (Unlock key) c h m e = absurd (not_await _ h refl e)
 waits_by s b bricks client call (OnNames q) c h m e = absurd (not_await _ h (awaits_within (with_store c) (name_row bricks q c.store) ∙ no_wait_name bricks q c.store) e)
+waits_by s b bricks client call (OnFile (Drop f)) c h m e = absurd (not_await _ h (awaits_within (with_store c) (file_row bricks (Drop f) c.store) ∙ no_wait_drop bricks f c.store (file c.store f) refl) e)
 waits_by s b bricks client call (OnFile q) c h m e = absurd m.0
+waits_by s b bricks client call (Seal f) c h m e = absurd (not_await _ h (awaits_within (with_opens c) (seal_row f c.opens) ∙ no_wait_seal f c.opens) e)
 waits_by s b bricks client call q c h m e = absurd m
 
 pub waits_is_lock : (s : Scene) (a : Ask) (bricks : List (List ℕ)) (client : ClientNo) (call : CallNo) (c : Contents) (h : ClientNo) → Permitted s a → row bricks client call a.request c ≡ Await h → IsLock a.request

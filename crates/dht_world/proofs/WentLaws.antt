@@ -3,8 +3,9 @@ use Rattle.std.proofs.Common.{◌≡◌, ◌≢◌, ◌<◌, ◌≤◌, ◌+◌,
 use Rattle.std.specs.Prelude.{Option, Some, None, is_some, ◌||◌, ◌&&◌, nat_eq, if◌then◌else◌, map}
 use Rattle.dht_types.specs.Put.{put}
 use Rattle.dht_types.proofs.PutLaws.{put_same, put_other, put_elim, exact_nat}
+use Rattle.dht_types.specs.Calls.{refusal_at_once}
 use Rattle.dht_types.specs.Cost.{cost}
-use Rattle.dht_types.specs.History.{History, PendingCall, Act, Owed, IsIn, IsOwn, IsUndisturbed, with_line, with_lines, with_step, stepped, did, made_in, slot_of, deeds_after, acts_after, LegalFrom, is_change, is_down, is_failed, owed_if, is_carried}
+use Rattle.dht_types.specs.History.{History, PendingCall, Act, Owed, IsIn, MakesOwn, IsUndisturbed, with_line, with_lines, with_step, stepped, did, slot_of, deeds_after, acts_after, LegalFrom, is_change, is_down, is_failed, owed_if, is_carried}
 use Rattle.dht_types.proofs.HistoryLaws.{past_with_line, point_with_line}
 use Rattle.dht_types.specs.Gfid.{Entry}
 use Rattle.dht_types.specs.declared.identifiers.ClientNo.{ClientNo}
@@ -46,6 +47,7 @@ pub record Sent (d : Disk) (js : ℕ → List JournalEntry) (s : History) (p : �
   pub owed : s.owed ≡ None
   pub runs : s.pending c.0 ≡ Some mine
   pub number : mine.number ≡ k
+  pub named : refusal_at_once mine.call ≡ None
   pub small : s.calls < 2 ^ 64
   pub client : c.0 < 65536
   pub begun : mine.since ≤ s.size
@@ -77,6 +79,7 @@ pub record Went (d : Disk) (s : History) (p : ℕ → Claim) (c : ClientNo) (min
   pub owed : t.owed ≡ None
   pub logged : Logged ks t
   pub same_run : t.run ≡ s.run
+  pub same_answered : t.answered ≡ s.answered
   pub same_down : t.down ≡ s.down
   pub same_dead : t.dead ≡ s.dead
   pub requests : t.requests ≡ s.requests + 1
@@ -157,7 +160,7 @@ module _ (d : Disk) (js : ℕ → List JournalEntry) (s : History) (p : ℕ → 
       let change : is_change (kind_of a.request) (reply_kind r) ≡ false = change_is a.request r ∙ ap is_some none in
       let pending : t.pending ≡ put nat_eq s.pending c.0 (Some more_steps) = ap (put nat_eq s.pending c.0) runs_first in
       record {
-        legal = ((h.owed, (mine, is_in)), tt);
+        legal = ((h.owed, (mine, is_in, h.named)), tt);
         in_time = (in_time_by, tt);
         mine_then = more_steps;
         runs = ap (λ (f : ℕ → Option PendingCall). f c.0) pending ∙ put_same nat_eq exact_nat s.pending c.0 (Some more_steps);
@@ -199,6 +202,7 @@ module _ (d : Disk) (js : ℕ → List JournalEntry) (s : History) (p : ℕ → 
               ∙ same_at changed_slots js s.changes a.brick.0 _ h.logged.slots (slots_kept r (js a.brick.0) (entry_of c k a.request r) (s.changes a.brick.0) (h.logged.slots a.brick.0) change) b;
         };
         same_run = refl;
+        same_answered = refl;
         same_down = refl;
         same_dead = refl;
         requests = refl;
@@ -244,8 +248,8 @@ module _ (d : Disk) (js : ℕ → List JournalEntry) (s : History) (p : ℕ → 
       let s1 = with_line s (step_line k c a r) in
       let runs1 : s1.pending c.0 ≡ Some more_steps = put_same nat_eq exact_nat s.pending c.0 (stepped (reply_kind r) (s.pending c.0)) ∙ runs_first in
       let in1 : IsIn s1 c k more_steps = record { runs = runs1; number = h.number } in
-      let own : IsOwn s.run c k (made_in step) = subst (λ (x : CallNo). IsOwn s.run c x (made_in step)) h.number wants.own in
-      ((h.owed, (mine, is_in)), ((owing, owe, refl, facts.0, (more_steps, in1, wants.next, wants.fits, own)), tt))
+      let own : MakesOwn s.run c k step = subst (λ (x : CallNo). MakesOwn s.run c x step) h.number wants.own in
+      ((h.owed, (mine, is_in, h.named)), ((owing, owe, refl, facts.0, (more_steps, in1, wants.next, wants.fits, own)), tt))
 
   slots_made : (step : TreeStep) → step_of a.request r ≡ Some step → (b : ℕ) → changed_slots (ks b) ≡ put nat_eq s.changes a.brick.0 (s.changes a.brick.0 ++ slot_of step ∷ []) b
   slots_made step some b =
@@ -311,6 +315,7 @@ module _ (d : Disk) (js : ℕ → List JournalEntry) (s : History) (p : ℕ → 
           slots = slots_made step some;
         };
         same_run = refl;
+        same_answered = refl;
         same_down = refl;
         same_dead = refl;
         requests = refl;
@@ -342,7 +347,7 @@ module _ (d : Disk) (js : ℕ → List JournalEntry) (s : History) (p : ℕ → 
       let pending : t.pending ≡ put nat_eq s.pending c.0 (Some mine) = put_id s.pending c.0 (Some mine) h.runs in
       let told : act_of (entry_of c k a.request r) ≡ record { client = c; call = k; request = kind.Lock; reply = outcome.Wait } = (λ i. record { client = c; call = k; request = kinds i; reply = replies i }) in
       record {
-        legal = ((h.owed, (mine, is_in)), tt);
+        legal = ((h.owed, (mine, is_in, h.named)), tt);
         in_time = ((λ o q u. (let z : true ≡ false = sym (ap is_wait er) ∙ h.calm (subst (IsUndisturbed s) (sym (undisturbed o q)) u) in cc)), tt);
         mine_then = mine;
         runs = h.runs;
@@ -392,6 +397,7 @@ module _ (d : Disk) (js : ℕ → List JournalEntry) (s : History) (p : ℕ → 
               ∙ same_at changed_slots js s.changes a.brick.0 _ h.logged.slots (slots_kept r (js a.brick.0) (entry_of c k a.request r) (s.changes a.brick.0) (h.logged.slots a.brick.0) change) b;
         };
         same_run = refl;
+        same_answered = refl;
         same_down = refl;
         same_dead = refl;
         requests = refl;

@@ -1,13 +1,16 @@
 -- The 64 places of clients, and what holds of each.
-use Rattle.std.specs.Prelude.{ℕ, ◌+◌, ◌≤◌, ◌≡◌, ◌≢◌, ◌⊎◌, Bool, true, false, if◌then◌else◌, MatchBool, Option, Some, None, List, [], ◌∷◌, length, slice_get}
+use Rattle.std.specs.Prelude.{ℕ, ◌+◌, ◌<◌, ◌≤◌, ◌≡◌, ◌≢◌, ◌⊎◌, Bool, true, false, if◌then◌else◌, MatchBool, Option, Some, None, Result, is_ok, OnOk, List, [], ◌∷◌, length, slice_get}
+use Rattle.dht_types.specs.Calls.{refusal_at_once, refusal_at_start}
 use Rattle.dht_types.specs.Cost.{cost}
 use Rattle.dht_types.specs.History.{History, PendingCall, IsUndisturbed}
 use Rattle.dht_types.specs.declared.calls.Call.{Call}
+use Rattle.dht_types.specs.declared.errors.Errno.{Errno}
 use Rattle.dht_types.specs.declared.identifiers.CallNo.{CallNo}
 use Rattle.dht_types.specs.declared.identifiers.ClientNo.{ClientNo}
+use Rattle.dht_types.specs.declared.identifiers.Gfid.{Gfid}
 use Rattle.dht_types.specs.declared.lines.Cause.{Cause}
 use Rattle.dht_types.specs.declared.lines.Cause.TheVariants as cause
-use Rattle.dht_section.specs.Begins.{Begins}
+use Rattle.dht_section.specs.Begins.{Begins, IsRefusal}
 use Rattle.dht_section.specs.Claims.{Claim, no_claim}
 use Rattle.dht_section.specs.Disk.{Disk}
 use Rattle.dht_section.specs.Scene.{Scene}
@@ -32,11 +35,13 @@ claim_at g (Some (Living x n)) = if g.is_busy x then (g.stage x).claims else no_
 abbrev pub claims_of : {C : Type 0} → CallerGhosts C → List (Place C) → ℕ → Claim
 claims_of g places c = claim_at g (slice_get places c)
 
--- the client's call is pending, and its program knows what it has to; a call that nobody disturbed so far answers in time, if that stays so
+-- the client's call is pending, and was not to be refused at once; its program knows what it has
+-- to; and a call that nobody disturbed so far answers in time, if that stays so
 pub record Works {C : Type 0} (g : CallerGhosts C) (d : Disk) (s : History) (claims : ℕ → Claim) (c : ℕ) (x : C) (n : CallNo) : Type 0 where
   pub mine : PendingCall
   pub runs : s.pending c ≡ Some mine
   pub number : mine.number ≡ n
+  pub named : refusal_at_once mine.call ≡ None
   pub begun : mine.since ≤ s.size
   pub knows : (g.stage x).knows (scene d s claims (client c) mine)
   pub in_time : IsUndisturbed s mine → mine.steps + (g.stage x).variant ≤ cost (length s.weights) mine.call
@@ -94,18 +99,22 @@ pub record Asks {C : Type 0} (g : CallerGhosts C) (p : Place C) (k : CallNo) (a 
   pub is : p ≡ Living client k
   pub asks : a ≡ (g.stage client).asks
 
--- the client of a place began a call of this number
-pub record Starts {C : Type 0} (g : CallerGhosts C) (old : Place C) (ws : List ℕ) (run : ℕ) (k : CallNo) (call : Call) (new : Place C) : Type 0 where
+-- the client of a place began a call of this number, or refused it and is idle
+pub record Starts {C : Type 0} (g : CallerGhosts C)
+    (old : Place C) (ws : List ℕ) (run : ℕ) (k : CallNo) (call : Call Gfid)
+    (begun : Result (Unit {0}) Errno) (new : Place C) : Type 0 where
   pub before : C
   pub number : CallNo
   pub was : old ≡ Living before number
   pub after : C
   pub is : new ≡ Living after k
-  pub busy : g.is_busy after ≡ true
+  pub refused : IsRefusal (refusal_at_start (length ws) call) begun
+  pub busy : g.is_busy after ≡ is_ok begun
   pub same : g.number after ≡ g.number before
-  pub copy : (g.stage after).claims.copy ≡ None
-  pub knows : (s : Scene) → Begins (g.number before) ws run k call s → (g.stage after).knows s
-  pub variant : (g.stage after).variant ≤ cost (length ws) call
+  pub copy : OnOk begun ((g.stage after).claims.copy ≡ None)
+  pub knows : OnOk begun ((s : Scene)
+      → Begins (g.number before) ws run k call s → (g.stage after).knows s)
+  pub variant : OnOk begun ((g.stage after).variant ≤ cost (length ws) call)
 
 -- the client of a place took the reply to its request
 pub record Takes {C : Type 0} (g : CallerGhosts C) (old : Place C) (r : Reply) (at : ℕ) (answer : Option Finish) (new : Place C) : Type 0 where
@@ -128,5 +137,6 @@ IsListed c (x ∷ xs) = (x ≡ c) ⊎ IsListed c xs
 pub record CallsCounted (s : History) : Type 0 where
   pub listed : (c : ℕ) (r : PendingCall) → s.pending c ≡ Some r → IsListed c s.callers
   pub numbered : (c : ℕ) (r : PendingCall) → s.pending c ≡ Some r → r.number.0 ≤ s.calls
+  pub from_one : (c : ℕ) (r : PendingCall) → s.pending c ≡ Some r → 0 < r.number.0
   pub alone : (c w : ℕ) (r : PendingCall)
       → s.pending c ≡ Some r → r.alone ≡ true → r.number.0 ≡ s.calls → w ≢ c → s.pending w ≡ None

@@ -1,10 +1,16 @@
 -- How the lines of a transcript come from the events of a schedule, one event after the other, and how soon a call answers.
 use Rattle.std.specs.Prelude.{ℕ, ◌+◌, ◌<◌, ◌≤◌, ◌≡◌, ◌≢◌, ◌⊎◌, ◌↔◌, Bool, true, false, nat_lt, if◌then◌else◌, Option, Some, None, is_some, MatchOption, List, [], ◌∷◌, ◌++◌, length}
+use Rattle.dht_types.specs.Calls.{named_call, refusal_at_start}
 use Rattle.dht_types.specs.Cost.{cost}
 use Rattle.dht_types.specs.History.{History, PendingCall, IsUndisturbed, with_line, with_lines}
+use Rattle.dht_types.specs.declared.calls.Answer.TheVariants.{Fault}
+use Rattle.dht_types.specs.declared.calls.Call.{Call}
+use Rattle.dht_types.specs.declared.errors.Errno.{Errno}
+use Rattle.dht_types.specs.declared.errors.Errno.TheVariants.{Enomem, Estale}
 use Rattle.dht_types.specs.declared.identifiers.BrickNo.{BrickNo}
 use Rattle.dht_types.specs.declared.identifiers.CallNo.{CallNo}
 use Rattle.dht_types.specs.declared.identifiers.ClientNo.{ClientNo}
+use Rattle.dht_types.specs.declared.identifiers.Gfid.{Gfid}
 use Rattle.dht_types.specs.declared.events.Event.{Event}
 use Rattle.dht_types.specs.declared.events.Event.TheVariants as event
 use Rattle.dht_types.specs.declared.lines.RequestKind.{RequestKind}
@@ -13,6 +19,7 @@ use Rattle.dht_types.specs.declared.lines.ReplyKind.{ReplyKind}
 use Rattle.dht_types.specs.declared.lines.ReplyKind.TheVariants.{Ok as Carried, Wait, Down, Failed}
 use Rattle.dht_types.specs.declared.lines.Cause.{Cause}
 use Rattle.dht_types.specs.declared.lines.Cause.TheVariants.{Unknown, Dead, Busy, Idle}
+use Rattle.dht_types.specs.declared.lines.Cause.TheVariants as cause
 use Rattle.dht_types.specs.declared.lines.Line.{Line}
 use Rattle.dht_types.specs.declared.lines.Line.TheVariants.{Volume, Called, Stepped, Waited, Tree, Answered, WentDown, CameUp, Died, Refused}
 
@@ -22,10 +29,15 @@ use Rattle.dht_types.specs.declared.lines.Line.TheVariants.{Volume, Called, Step
 abbrev pub client_cause : History → ℕ → Option Cause → Option Cause
 client_cause s c other = if nat_lt c 64 then (if s.dead c then Some Dead else other) else Some Unknown
 
--- a call is refused where one of the client is pending, and a step where none is
-abbrev pub call_cause : Option PendingCall → Option Cause
-call_cause None = None
-call_cause (Some r) = Some Busy
+-- a call is refused that names a directory by the answer of a call that has answered none
+abbrev pub answer_cause : Option (Call Gfid) → Option Cause
+answer_cause (Some what) = None
+answer_cause None = Some cause.Answer
+
+-- and, before that, one whose client has a pending call; a step where none is
+abbrev pub call_cause : Option PendingCall → Option (Call Gfid) → Option Cause
+call_cause None what = answer_cause what
+call_cause (Some r) what = Some Busy
 
 abbrev pub step_cause : Option PendingCall → Option Cause
 step_cause None = Some Idle
@@ -38,7 +50,8 @@ brick_cause s b = if nat_lt b (length s.weights) then None else Some Unknown
 -- the first cause for which an event is refused after this history, if there is one
 abbrev pub cause_of : History → Event → Option Cause
 cause_of s (event.Volume w) = None
-cause_of s (event.Call c call) = client_cause s c (call_cause (s.pending c))
+cause_of s (event.Call c call) =
+    client_cause s c (call_cause (s.pending c) (named_call s.answered call))
 cause_of s (event.Step c) = client_cause s c (step_cause (s.pending c))
 cause_of s (event.Down b) = brick_cause s b
 cause_of s (event.Up b) = brick_cause s b
@@ -83,8 +96,10 @@ pub record IsWait (s : History) (c : ℕ) (r : PendingCall) (line : Line) : Type
 -- the head line of an event that is accepted
 abbrev pub Accepted : History → Event → Line → Type 0
 Accepted s (event.Volume w) line = line ≡ Volume w
--- a call has the next number
-Accepted s (event.Call c call) line = line ≡ Called (record { 0 = s.calls + 1 }) (record { 0 = c }) call
+-- a call has the next number, and names its directory by a gfid
+Accepted s (event.Call c call) line =
+    (what : Call Gfid) × (named_call s.answered call ≡ Some what)
+    × (line ≡ Called (record { 0 = s.calls + 1 }) (record { 0 = c }) what)
 -- a step is one of the client's pending call
 Accepted s (event.Step c) line = (r : PendingCall) × (s.pending c ≡ Some r) × (IsStep s c r line ⊎ IsWait s c r line)
 Accepted s (event.Down b) line = line ≡ WentDown (record { 0 = b })
@@ -108,18 +123,30 @@ abbrev pub IsUnderStep : CallNo → ClientNo → List Line → Type 0
 IsUnderStep k c (Tree j step ∷ lines) = (j ≡ k) × IsEnd k c lines
 IsUnderStep k c lines = IsEnd k c lines
 
--- what may stand under a head line
-abbrev pub IsUnder : Line → List Line → Type 0
-IsUnder (Volume w) lines = lines ≡ []
-IsUnder (Called k c call) lines = IsEnd k c lines
-IsUnder (Stepped k c b q r) lines = IsUnderStep k c lines
-IsUnder (Waited k c b h) lines = IsEnd k c lines
-IsUnder (WentDown b) lines = lines ≡ []
-IsUnder (CameUp b) lines = lines ≡ []
-IsUnder (Died c) lines = lines ≡ []
-IsUnder (Refused n cause) lines = lines ≡ []
-IsUnder (Tree k step) lines = ⊥
-IsUnder (Answered k c at a) lines = ⊥
+-- the point of a refusal at the start: for a directory that is none of the tree it is the call line
+abbrev pub refusal_point : ℕ → Errno → Option ℕ
+refusal_point line Estale = Some line
+refusal_point line e = None
+
+-- under the call line of a call that is to be refused at the start: this refusal; under that of
+-- another one: nothing, or that it had no memory to begin
+abbrev pub IsUnderCall : ℕ → CallNo → ClientNo → Option Errno → List Line → Type 0
+IsUnderCall line k c (Some e) lines = lines ≡ Answered k c (refusal_point line e) (Fault e) ∷ []
+IsUnderCall line k c None lines = (lines ≡ []) ⊎ (lines ≡ Answered k c None (Fault Enomem) ∷ [])
+
+-- what may stand under a head line that comes after this history
+abbrev pub IsUnder : History → Line → List Line → Type 0
+IsUnder s (Volume w) lines = lines ≡ []
+IsUnder s (Called k c what) lines =
+    IsUnderCall (s.size + 1) k c (refusal_at_start (length s.weights) what) lines
+IsUnder s (Stepped k c b q r) lines = IsUnderStep k c lines
+IsUnder s (Waited k c b h) lines = IsEnd k c lines
+IsUnder s (WentDown b) lines = lines ≡ []
+IsUnder s (CameUp b) lines = lines ≡ []
+IsUnder s (Died c) lines = lines ≡ []
+IsUnder s (Refused n cause) lines = lines ≡ []
+IsUnder s (Tree k step) lines = ⊥
+IsUnder s (Answered k c at a) lines = ⊥
 
 -- the lines of one event: its head line, and what stands under it
 pub record Block (s : History) (n : ℕ) (e : Event) (lines : List Line) : Type 0 where
@@ -127,7 +154,7 @@ pub record Block (s : History) (n : ℕ) (e : Event) (lines : List Line) : Type 
   pub more : List Line
   pub all : lines ≡ first ∷ more
   pub is_head : Head s n e first
-  pub is_under : IsUnder first more
+  pub is_under : IsUnder s first more
 
 -- the lines come from the events, the first of which is of the schedule's n-th line
 abbrev pub ComesFrom : History → ℕ → List Event → List Line → Type 0

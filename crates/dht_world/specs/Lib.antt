@@ -1,3 +1,4 @@
+pub mod Answers
 pub mod Bricks
 pub mod Following
 pub mod Lines

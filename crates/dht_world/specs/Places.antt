@@ -7,16 +7,22 @@ use Rattle.dht_brick.specs.declared.brick.Brick.{Ghosts as BrickGhosts}
 use Rattle.dht_section.specs.declared.caller.Caller.{Ghosts as CallerGhosts}
 use Rattle.dht_world.specs.Bricks.{disk_of, journals_of, AreReady}
 use Rattle.dht_world.specs.Following.{cause_of, Block}
-use Rattle.dht_world.specs.World.{Counts, At, HoldersCall}
+use Rattle.dht_world.specs.World.{Summary, At, HoldersCall}
 use Rattle.dht_world.specs.declared.events.World.{World}
 
--- the numbers that it keeps
-abbrev pub counts_of : {B C : Type 0} → World B C → Counts
-counts_of w = record { run = w.run; calls = w.calls; lines = w.lines; requests = w.requests }
+-- what it keeps of its lines
+abbrev pub summary_of : {B C : Type 0} → World B C → Summary
+summary_of w = record {
+  run = w.run;
+  calls = w.calls;
+  lines = w.lines;
+  requests = w.requests;
+  answers = w.answers.items;
+}
 
 -- the world is where these lines lead to, and its bricks are ready
 pub record IsAt {B C : Type 0} (b : BrickGhosts B) (c : CallerGhosts C) (w : World B C) (past : List Line) : Type 0 where
-  pub led : At c (disk_of b.state w.bricks.items) (journals_of b.state w.bricks.items) w.clients.items w.weights (counts_of w) past
+  pub led : At c (disk_of b.state w.bricks.items) (journals_of b.state w.bricks.items) w.clients.items w.weights (summary_of w) past
   pub ready : AreReady b.state w.weights w.run (history_of past).down w.bricks.items
 
 -- nothing changed but how many lines the world has written
@@ -27,6 +33,7 @@ pub record StaysSilent {B C : Type 0} (b : BrickGhosts B) (old new : World B C) 
   pub run : new.run ≡ old.run
   pub calls : new.calls ≡ old.calls
   pub requests : new.requests ≡ old.requests
+  pub answers : new.answers.items ≡ old.answers.items
 
 -- nothing changed
 abbrev pub Stays : {B C : Type 0} → BrickGhosts B → World B C → World B C → Type 0

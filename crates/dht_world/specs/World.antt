@@ -1,9 +1,9 @@
 -- What holds of a world between events.
-use Rattle.std.specs.Prelude.{ℕ, ◌≡◌, ◌≤◌, ◌<◌, true, is_some, Some, List, length, slice_get}
-use Rattle.dht_types.specs.Calls.{IsInRoot}
+use Rattle.std.specs.Prelude.{ℕ, ◌≡◌, ◌≤◌, ◌<◌, true, is_some, Option, Some, List, length, slice_get}
 use Rattle.dht_types.specs.History.{History, Legal, history_of, start}
 use Rattle.dht_types.specs.declared.events.Event.{Event}
-use Rattle.dht_types.specs.declared.events.Event.TheVariants.{Volume, Call}
+use Rattle.dht_types.specs.declared.events.Event.TheVariants.{Volume}
+use Rattle.dht_types.specs.declared.identifiers.Gfid.{Gfid}
 use Rattle.dht_types.specs.declared.lines.Line.{Line}
 use Rattle.dht_types.specs.declared.locks.Key.{Key}
 use Rattle.dht_types.specs.declared.locks.Mode.{Mode}
@@ -12,6 +12,7 @@ use Rattle.dht_section.specs.declared.caller.Caller.{Ghosts as CallerGhosts}
 use Rattle.dht_section.specs.Disk.{Disk, holders}
 use Rattle.dht_section.specs.Early.{Early}
 use Rattle.dht_section.specs.Invariant.{Invariant}
+use Rattle.dht_world.specs.Answers.{answered_in}
 use Rattle.dht_world.specs.Bricks.{Logged}
 use Rattle.dht_world.specs.Clients.{claims_of, ClientFits, CallsCounted}
 use Rattle.dht_world.specs.Following.{InTimeFrom}
@@ -20,38 +21,40 @@ use Rattle.dht_world.specs.declared.places.Place.{Place}
 -- the events of a schedule after its first line
 abbrev pub CanHappen : Event → Type 0
 CanHappen (Volume w) = ⊥
-CanHappen (Call c call) = IsInRoot call
 CanHappen e = Unit {0}
 
--- the numbers that a world keeps
-pub record Counts : Type 0 where
+-- what a world keeps of its lines
+pub record Summary : Type 0 where
   pub run : ℕ  -- the volume's run number
   pub calls : ℕ  -- how many calls were accepted
   pub lines : ℕ  -- how many lines were written
   pub requests : ℕ  -- how many of these are step or wait lines
+  pub answers : List (Option Gfid)  -- what each call answered, the first call first
 
--- they are those of the history
-pub record AreCounts (n : Counts) (s : History) : Type 0 where
+-- it is what the history tells
+pub record IsSummary (n : Summary) (s : History) : Type 0 where
   pub run : s.run ≡ n.run
   pub calls : s.calls ≡ n.calls
   pub lines : s.size ≡ n.lines
   pub requests : s.requests ≡ n.requests
+  pub answers : s.answered ≡ answered_in n.answers
+  pub places : length n.answers ≡ n.calls
   pub fewer : n.calls ≤ n.lines
   pub less : n.requests ≤ n.lines
 
--- what holds of bricks, journals, clients and counts where the lines tell this history
-pub record Fit {C : Type 0} (g : CallerGhosts C) (d : Disk) (js : ℕ → List JournalEntry) (places : List (Place C)) (ws : List ℕ) (n : Counts) (s : History) : Type 0 where
+-- what holds of bricks, journals, clients and summary where the lines tell this history
+pub record Fit {C : Type 0} (g : CallerGhosts C) (d : Disk) (js : ℕ → List JournalEntry) (places : List (Place C)) (ws : List ℕ) (n : Summary) (s : History) : Type 0 where
   pub kept : Invariant d s (claims_of g places)
   pub early : Early d s
   pub logged : Logged js s
   pub same_weights : s.weights ≡ ws
-  pub counts : AreCounts n s
+  pub summary : IsSummary n s
   pub counted : CallsCounted s
   pub many : length places ≡ 64
   pub each : (c : ℕ) → ClientFits g d s (claims_of g places) c (slice_get places c)
 
 -- the world is where these lines lead to
-pub record At {C : Type 0} (g : CallerGhosts C) (d : Disk) (js : ℕ → List JournalEntry) (places : List (Place C)) (ws : List ℕ) (n : Counts) (past : List Line) : Type 0 where
+pub record At {C : Type 0} (g : CallerGhosts C) (d : Disk) (js : ℕ → List JournalEntry) (places : List (Place C)) (ws : List ℕ) (n : Summary) (past : List Line) : Type 0 where
   pub legal : Legal past
   pub in_time : InTimeFrom start past
   pub fit : Fit g d js places ws n (history_of past)

@@ -5,7 +5,6 @@ ghost use Rattle.dht_types.specs.History.{history_of};
 ghost use Rattle.dht_types.specs.declared.lines.Line.{Line};
 ghost use Rattle.dht_types.specs.Volume.{HasWeight};
 ghost use Rattle.dht_brick.specs.Within.{MayBeSent};
-ghost use Rattle.dht_types.specs.Calls.{IsInRoot};
 ghost use Rattle.dht_world.specs.Bricks.{disk_of, journals_of, none_down, without_client, AreNewborn, AreReady, ServedAt};
 ghost use Rattle.dht_world.specs.Clients.{place_cause, AreNewClients};
 ghost use Rattle.dht_world.specs.Following.{cause_of, is_step, step_limit, IsSpent};
@@ -13,19 +12,20 @@ ghost use Rattle.dht_world.specs.World.{CanHappen, HoldersCall};
 ghost use Rattle.dht_world.specs.Places.{IsAt, IsAccepted, StaysSilent, Stays, Adds, Comes};
 ghost use Rattle.dht_world.specs.declared.stop.Stop.TheVariants.{Limit};
 
-use super::notes::{push_line, push_request};
+use super::answers::{admit, answer_cause, keep_answer};
+use super::notes::{push_line, push_request, refusal_point};
 use super::places::Place;
 use super::stop::Stop;
 use dht_brick::brick::Brick;
 use dht_brick::replies::Reply;
 use dht_section::caller::Caller;
 use dht_section::machine::Ask;
-use dht_types::calls::Call;
-use dht_types::events::Event;
-use dht_types::identifiers::{BrickNo, CallNo, ClientNo};
+use dht_types::calls::{Answer, Call};
+use dht_types::events::{Directory, Event};
+use dht_types::identifiers::{BrickNo, CallNo, ClientNo, Gfid};
 use dht_types::lines::{Cause, Line};
 use dht_types::volumes::Weights;
-use std::alloc::AllocError;
+use std::alloc::{AllocError, Global};
 
 /// The bricks of a volume, and the clients.
 #[derive(Drop)]
@@ -44,6 +44,8 @@ pub struct World<B, C> {
     pub lines: u64,
     /// How many of them are step or wait lines.
     pub requests: u64,
+    /// The file or directory that each accepted call has answered, the first call's first.
+    pub answers: Vec<Option<Gfid>>,
 }
 
 /// How many step and wait lines a run has at most.
@@ -92,7 +94,12 @@ impl<B: Brick, C: Caller> World<B, C> {
     /// line. Each brick has its place as its number and the range of the root that is planned for it,
     /// knows the volume, is up, and does not fail. Each client has its place as its number, is idle,
     /// and has not called.
-    pub fn new(weights: Weights, bricks: Vec<B>, clients: Vec<Place<C>>) -> World<B, C>
+    pub fn new(
+        alloc: Global,
+        weights: Weights,
+        bricks: Vec<B>,
+        clients: Vec<Place<C>>,
+    ) -> World<B, C>
         requires newborn { AreNewborn weights (disk_of B.state bricks.items)
             (journals_of B.state bricks.items) }
         requires ready { AreReady B.state weights 1 none_down bricks.items }
@@ -113,6 +120,7 @@ impl<B: Brick, C: Caller> World<B, C> {
             calls: 0,
             lines: 1,
             requests: 0,
+            answers: Vec::new(alloc),
         }
     }
 
@@ -146,7 +154,10 @@ impl<B: Brick, C: Caller> World<B, C> {
     {
         match event {
             Event::Volume(_) => None,
-            Event::Call(client, _) => self.client_cause(*client, None, Some(Cause::Busy)),
+            Event::Call(client, what) => {
+                let idle = answer_cause(&self.answers, what);
+                self.client_cause(*client, idle, Some(Cause::Busy))
+            }
             Event::Step(client) => self.client_cause(*client, Some(Cause::Idle), None),
             Event::Die(client) => self.client_cause(*client, None, None),
             Event::Down(brick) | Event::Up(brick) => {
@@ -183,21 +194,40 @@ impl<B: Brick, C: Caller> World<B, C> {
         self.lines += 1;
     }
 
-    /// A client calls.
-    fn call(&mut self, client: ClientNo, what: &Call, out: &mut Vec<Line>)
+    /// A client calls. The call begins, or is refused before its first request.
+    fn call(
+        &mut self,
+        alloc: Global,
+        client: ClientNo,
+        what: &Call<Directory>,
+        out: &mut Vec<Line>,
+    ) -> Result<(), AllocError>
         requires room { vec_len out.old + 3 ≤ vec_capacity out.old }
         requires few { self.old.lines + 3 < 2 ^ 64 }
-        requires root { IsInRoot what.now }
         requires accepted { IsAccepted B.Brick C.Caller self.old (Event.Call client.0 what.now) }
-        ensures comes { Comes B.Brick C.Caller self.old self.new
-            (Event.Call client.0 what.now) out.old.items out.new.items }
+        ensures comes { OnOk result (Comes B.Brick C.Caller self.old self.new
+            (Event.Call client.0 what.now) out.old.items out.new.items) }
+        ensures err { OnErr result ((past : List Line)
+            → IsAt B.Brick C.Caller self.old past
+            → IsAt B.Brick C.Caller self.new past) }
+        ensures stays { OnErr result (Stays B.Brick self.old self.new) }
+        ensures none { OnErr result (out.new.items ≡ out.old.items) }
         ensures grows { self.new.lines ≤ self.old.lines + 3 }
     {
+        let call = admit(alloc, &mut self.answers, what)?;
         let number = CallNo(self.calls + 1);
-        self.clients[usize::from(client.0)].start(&self.weights, self.run, number, what);
-        push_line(out, Line::Called(number, client, *what));
+        let caller = &mut self.clients[usize::from(client.0)];
+        let begun = caller.start(alloc, &self.weights, self.run, number, &call);
+        push_line(out, Line::Called(number, client, call));
         self.calls += 1;
         self.lines += 1;
+        if let Err(refusal) = begun {
+            let point = refusal_point(self.lines, refusal);
+            let answer = Answer::Fault(refusal);
+            push_line(out, Line::Answered(number, client, point, answer));
+            self.lines += 1;
+        }
+        Ok(())
     }
 
     /// The next request of a client's pending call is carried out, or waits.
@@ -223,6 +253,7 @@ impl<B: Brick, C: Caller> World<B, C> {
         self.requests += 1;
         let place = &mut self.clients[usize::from(client.0)];
         if let Some(finish) = place.take(reply, self.lines) {
+            keep_answer(&mut self.answers, call, &finish.answer);
             push_line(out, Line::Answered(call, client, finish.at, finish.answer));
             self.lines += 1;
         }
@@ -274,32 +305,57 @@ impl<B: Brick, C: Caller> World<B, C> {
         self.lines += 1;
     }
 
-    /// An event that is not refused, and no step.
-    fn happen(&mut self, event: &Event, out: &mut Vec<Line>)
+    /// An event that is not refused.
+    fn happen(
+        &mut self,
+        alloc: Global,
+        event: &Event,
+        out: &mut Vec<Line>,
+    ) -> Result<(), AllocError>
     where
         C: Drop,
         requires can { CanHappen event.now }
-        requires no_step { is_step event.now ≡ false }
         requires room { vec_len out.old + 3 ≤ vec_capacity out.old }
         requires few { self.old.lines + 3 < 2 ^ 64 }
         requires accepted { IsAccepted B.Brick C.Caller self.old event.now }
-        ensures comes { Comes B.Brick C.Caller self.old self.new
-            event.now out.old.items out.new.items }
+        ensures comes { OnOk result (Comes B.Brick C.Caller self.old self.new
+            event.now out.old.items out.new.items) }
+        ensures err { OnErr result ((past : List Line)
+            → IsAt B.Brick C.Caller self.old past
+            → IsAt B.Brick C.Caller self.new past) }
+        ensures stays { OnErr result (Stays B.Brick self.old self.new) }
+        ensures none { OnErr result (out.new.items ≡ out.old.items) }
         ensures grows { self.new.lines ≤ self.old.lines + 3 }
     {
         match event {
-            Event::Call(client, what) => self.call(ClientNo(*client as u16), what, out),
-            Event::Down(brick) => self.down(BrickNo(*brick as u16), out),
-            Event::Up(brick) => self.up(BrickNo(*brick as u16), out),
-            Event::Die(client) => self.die(ClientNo(*client as u16), out),
-            Event::Step(_) | Event::Volume(_) => unreachable!(),
+            Event::Call(client, what) => self.call(alloc, ClientNo(*client as u16), what, out),
+            Event::Step(client) => self.step(ClientNo(*client as u16), out),
+            Event::Down(brick) => {
+                self.down(BrickNo(*brick as u16), out);
+                Ok(())
+            }
+            Event::Up(brick) => {
+                self.up(BrickNo(*brick as u16), out);
+                Ok(())
+            }
+            Event::Die(client) => {
+                self.die(ClientNo(*client as u16), out);
+                Ok(())
+            }
+            Event::Volume(_) => unreachable!(),
         }
     }
 
     /// One event, that of this line of the schedule; its lines are appended. It does not happen where
     /// it is a step and the run has had all its steps, nor where memory runs out: then nothing has
     /// happened.
-    pub fn event(&mut self, event: &Event, line: u64, out: &mut Vec<Line>) -> Result<(), Stop>
+    pub fn event(
+        &mut self,
+        alloc: Global,
+        event: &Event,
+        line: u64,
+        out: &mut Vec<Line>,
+    ) -> Result<(), Stop>
     where
         C: Drop,
         requires can { CanHappen event.now }
@@ -328,11 +384,7 @@ impl<B: Brick, C: Caller> World<B, C> {
             self.refuse(line, cause, out);
             return Ok(());
         }
-        if let Event::Step(client) = event {
-            self.step(ClientNo(*client as u16), out)?;
-            return Ok(());
-        }
-        self.happen(event, out);
+        self.happen(alloc, event, out)?;
         Ok(())
     }
 }

@@ -3,6 +3,7 @@
 //! the bricks stand for the lines' tree.
 #![tactic(auto)]
 
+mod answers;
 mod events;
 mod notes;
 mod places;

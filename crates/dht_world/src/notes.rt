@@ -2,12 +2,14 @@
 
 ghost use Rattle.std.specs.Prelude.{◌≡◌, ◌+◌, ◌≤◌, ◌<◌, [], ◌∷◌, ◌++◌, vec_len, vec_capacity, length};
 ghost use Rattle.dht_section.specs.Moves.{step_of};
+ghost use Rattle.dht_world.specs.Following.{refusal_point};
 ghost use Rattle.dht_world.specs.Lines.{request_lines};
 
 use dht_brick::replies::Reply;
 use dht_brick::requests::{NameRequest, Request};
 use dht_section::machine::Ask;
 use dht_types::calls::TreeStep;
+use dht_types::errors::Errno;
 use dht_types::identifiers::{CallNo, ClientNo};
 use dht_types::lines::Line;
 
@@ -28,6 +30,20 @@ pub fn step_of(request: &Request, reply: &Reply) -> Option<TreeStep>
         (Reply::Ok(_), Request::OnNames(NameRequest::Create(dir, name, file))) => {
             Some(TreeStep::AddFile(*dir, *name, *file))
         }
+        (Reply::Ok(_), Request::OnNames(NameRequest::Unlink(dir, name, _))) => {
+            Some(TreeStep::RemoveFile(*dir, *name))
+        }
+        _ => None,
+    }
+}
+
+/// The point of a refusal before a call's first request; the call line has this number. A directory
+/// that is none of the tree is none at that line.
+pub fn refusal_point(line: u64, refusal: Errno) -> Option<u64>
+    ensures { result ≡ refusal_point line refusal }
+{
+    match refusal {
+        Errno::Estale => Some(line),
         _ => None,
     }
 }

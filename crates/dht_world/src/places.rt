@@ -1,16 +1,16 @@
 //! The place of a client in the world.
 
 ghost use Rattle.std.specs.Prelude.{◌≡◌, ◌≤◌, not, true, false, None, length};
-ghost use Rattle.dht_types.specs.Calls.{IsInRoot};
-ghost use Rattle.dht_types.specs.Cost.{cost};
 ghost use Rattle.dht_world.specs.Clients.{is_dead, is_busy_at, IsBusy, IsIdle, Asks, Starts, Takes};
 
 use dht_brick::replies::Reply;
 use dht_section::caller::Caller;
 use dht_section::machine::{Ask, Finish};
 use dht_types::calls::Call;
-use dht_types::identifiers::CallNo;
+use dht_types::errors::Errno;
+use dht_types::identifiers::{CallNo, Gfid};
 use dht_types::volumes::Weights;
+use std::alloc::Global;
 
 /// The place of a client: one that lives, with the number of its last call, or one that has died.
 #[derive(Drop)]
@@ -42,16 +42,26 @@ impl<C: Caller> Place<C> {
         }
     }
 
-    /// The client calls, over bricks of these weights and in this run.
-    pub fn start(&mut self, weights: &Weights, run: u32, call: CallNo, what: &Call)
+    /// The client calls, over bricks of these weights and in this run; or the call is refused
+    /// before its first request, and the client stays idle.
+    pub fn start(
+        &mut self,
+        alloc: Global,
+        weights: &Weights,
+        run: u32,
+        call: CallNo,
+        what: &Call<Gfid>,
+    ) -> Result<(), Errno>
         requires idle { IsIdle C.Caller self.old }
         requires few { length weights.now ≤ 32 }
-        requires root { IsInRoot what.now }
-        ensures { Starts C.Caller self.old weights.now run call what.now self.new }
+        ensures { Starts C.Caller self.old weights.now run call what.now result self.new }
     {
-        if let Place::Living(client, number) = self {
-            client.start(weights, run, call, what);
-            *number = call;
+        match self {
+            Place::Living(client, number) => {
+                *number = call;
+                client.start(alloc, weights, run, call, what)
+            }
+            Place::Dead => unreachable!(),
         }
     }
 

@@ -83,6 +83,27 @@ first_place p xs k d h pass =
     let early : position_or_len p xs ≤ k = ⊎_elim (λ late. absurd (true≢false (sym pass ∙ fails_before_first p xs k d late))) (λ le. le) (cases_lt k (position_or_len p xs)) in
     (early, cond-true _ (Some (position_or_len p xs)) None (lt-ltb (position_or_len p xs) (length xs) (omega arith)))
 
+-- an element that passes, where none before it does, is the first
+pub first_is : {X : Type 0} (p : X → Bool) (xs : List X) (k : ℕ) (d : X) → k < length xs → p (get_or xs k d) ≡ true
+    → ((i : ℕ) → i < k → p (get_or xs i d) ≡ false) → position p xs ≡ Some k
+first_is p xs k d h pass fails =
+    let (early, found) = first_place p xs k d h pass in
+    let (within, at, before) = position-Some p xs (position_or_len p xs) d found in
+    found ∙ ap Some (⊎_elim
+    (λ less. absurd (true≢false (sym at ∙ fails (position_or_len p xs) less)))
+    (λ from. omega arith)
+    (cases_lt (position_or_len p xs) k))
+
+-- where no element passes, there is no first
+pub no_first : {X : Type 0} (p : X → Bool) (xs : List X) (d : X) → ((i : ℕ) → i < length xs → p (get_or xs i d) ≡ false) → position p xs ≡ None
+no_first {X} p xs d fails = by (position p xs) refl
+  where
+    by : (o : Option ℕ) → position p xs ≡ o → position p xs ≡ None
+    by None e = e
+    by (Some k) e =
+        let (within, at, before) = position-Some p xs k d e in
+        absurd (true≢false (sym at ∙ fails k within))
+
 -- the holder is a brick that has a place in the layout
 pub holder_within : (ranges : List (Option Range)) (hash b : ℕ) → holder ranges hash ≡ Some b → b < length ranges
 holder_within ranges hash b found = (position-Some (λ range. contains range hash) ranges b None found).0

@@ -1,10 +1,11 @@
 -- A linkto value leads to the brick that it was written for, with its zero byte and without.
-use Rattle.std.proofs.Common.{◌≡◌, ℕ, ◌+◌, ◌-◌, ◌<◌, ◌≤◌, ◌↔◌, true, true≢false, List, [], ◌∷◌, ◌++◌, length, get_or, take, drop, refl, sym, ap, subst, ◌∙◌, arith, ⊎_elim}
+use Rattle.std.proofs.Common.{◌≡◌, ℕ, zero, suc, ◌+◌, ◌-◌, ◌<◌, ◌≤◌, ◌↔◌, true, false, true≢false, List, [], ◌∷◌, ◌++◌, length, get_or, take, drop, refl, sym, ap, subst, ◌∙◌, arith, ⊎_elim}
 use Rattle.std.specs.Prelude.{Option, Some, None, IfSome, IsNone, Contains, option_map, unwrap_or, slice_get, position, nat_lt, nat_le, ◌&&◌}
 use Rattle.std.specs.List.{position_or_len, list_all}
 use Rattle.std.specs.Str.{bytes_eq}
 use Rattle.std.proofs.Common.{length-append}
-use Rattle.std.proofs.Math.Seq.{take-append_seam, drop-append_seam}
+use Rattle.std.proofs.Math.ListN.{get_or-append}
+use Rattle.std.proofs.Math.Seq.{get_or-append_seam, take-append_seam, drop-append_seam}
 use Rattle.std.proofs.lemmas.Bool.{cases_lt, and_parts, ltb-true, leb-true, false_from_ne_true, cond-true, cond-false}
 use Rattle.std.proofs.lemmas.Option.{get_or_from_slice_get, slice_get-get_or, slice_get_within}
 use Rattle.std.proofs.lemmas.Slice.Eq.{bytes_eq-Decides}
@@ -12,8 +13,9 @@ use Rattle.std.proofs.lemmas.List.{get_or-drop}
 use Rattle.std.proofs.lemmas.List.Sums.{AllPass-from_list_all}
 use Rattle.std.proofs.lemmas.List.Quantifiers.{position-Some}
 use Rattle.dht_types.specs.declared.identifiers.BrickNo.{BrickNo}
-use Rattle.dht_types.specs.Volume.{VolumeInfo, IsVolume, is_brick_byte, is_brick_name}
-use Rattle.dht_xattr.proofs.LayoutLaws.{first_place}
+use Rattle.dht_types.specs.Volume.{VolumeInfo, IsVolume, is_brick_byte, is_brick_name, replay_name, replay_names}
+use Rattle.dht_types.proofs.VolumeLemmas.{length-replay_names}
+use Rattle.dht_xattr.proofs.LayoutLaws.{first_place, first_is, no_first}
 use Rattle.dht_types.specs.Linkto.{linkto_value, ends_in_zero, without_zero, linked_brick}
 
 -- the place of a name of a volume
@@ -90,3 +92,45 @@ linkto_value-short v b good inside =
     let size : length (linkto_value v.names b) ≡ length (name ++ 0 ∷ []) = ap length value in
     let whole = length-append name (0 ∷ []) in
     omega arith
+
+-- ---- the volume of a replay
+
+-- the name of each of its bricks
+replay_names_at : (count b : ℕ) → b < count → get_or (replay_names count) b [] ≡ replay_name b
+unfolding replay_names
+replay_names_at zero b h = absurd (omega arith)
+replay_names_at (suc count) b h =
+    let size = length-replay_names count in
+    ⊎_elim
+    (λ below. get_or-append (replay_names count) (replay_name count ∷ []) [] b (omega arith) ∙ replay_names_at count b below)
+    (λ from.
+    let last : length (replay_names count) ≡ b = omega arith in
+    let here : count ≡ b = omega arith in
+    ap (λ (k : ℕ). get_or (replay_names count ++ replay_name count ∷ []) k []) (sym last)
+    ∙ get_or-append_seam (replay_names count) (replay_name count) [] []
+    ∙ ap replay_name here)
+    (cases_lt b count)
+
+-- a value names the first brick whose name it is, and none where it is no brick's
+pub replay_linked : (count b : ℕ) (value : List ℕ) → b < count → bytes_eq (replay_name b) (without_zero value) ≡ true
+    → ((k : ℕ) → k < b → bytes_eq (replay_name k) (without_zero value) ≡ false) → linked_brick (replay_names count) value ≡ Some b
+replay_linked count b value h pass fails =
+    let size = length-replay_names count in
+    first_is (λ name. bytes_eq name (without_zero value)) (replay_names count) b [] (omega arith)
+    (ap (λ (name : List ℕ). bytes_eq name (without_zero value)) (replay_names_at count b h) ∙ pass)
+    (λ k l. ap (λ (name : List ℕ). bytes_eq name (without_zero value)) (replay_names_at count k (omega arith)) ∙ fails k l)
+
+pub replay_unlinked : (count all : ℕ) (value : List ℕ) → count ≤ all
+    → ((k : ℕ) → k < all → bytes_eq (replay_name k) (without_zero value) ≡ false) → linked_brick (replay_names count) value ≡ None
+replay_unlinked count all value enough fails =
+    let size = length-replay_names count in
+    no_first (λ name. bytes_eq name (without_zero value)) (replay_names count) []
+    (λ k l. ap (λ (name : List ℕ). bytes_eq name (without_zero value)) (replay_names_at count k (omega arith)) ∙ fails k (omega arith))
+
+-- one brick more whose name it is not
+pub fails_more : (name : List ℕ) (b : ℕ) → ((k : ℕ) → k < b → bytes_eq (replay_name k) name ≡ false) → bytes_eq (replay_name b) name ≡ false
+    → (k : ℕ) → k < b + 1 → bytes_eq (replay_name k) name ≡ false
+fails_more name b fails here k h = ⊎_elim
+    (λ below. fails k below)
+    (λ from. let same : b ≡ k = omega arith in ap (λ (i : ℕ). bytes_eq (replay_name i) name) (sym same) ∙ here)
+    (cases_lt k b)

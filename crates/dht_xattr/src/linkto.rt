@@ -1,12 +1,14 @@
 //! The value of a linkto file: the name of the brick that has the file.
 
 ghost use Rattle.std.specs.Prelude.{◌≡◌, ◌<◌, ◌≤◌, ◌↔◌, Some, IfOk, IfSome, IsNone, Contains, ℕ, List, length, option_map, slice_get};
-ghost use Rattle.dht_types.specs.Volume.{VolumeInfo, IsVolume};
+ghost use Rattle.std.specs.Str.{bytes_eq};
+ghost use Rattle.dht_types.specs.Volume.{VolumeInfo, IsVolume, replay_name, replay_names};
 ghost use Rattle.dht_types.specs.Linkto.{linkto_value, linked_brick, without_zero};
 
 use dht_types::bytes::Bytes;
 use dht_types::identifiers::BrickNo;
 use dht_types::volumes::Volume;
+use itoa::Buffer;
 use std::alloc::{AllocError, Global};
 
 /// The value of a linkto file that leads to a brick, as GlusterFS's attribute
@@ -40,6 +42,31 @@ pub fn linkto_brick(volume: &Volume, value: &[u8]) -> Option<BrickNo>
     // A volume has no name twice, as `bricks` says: the brick is the only one of its name.
     prove!(volume.bricks() > 0);
     volume.number(without_zero(value))
+}
+
+/// Whether these bytes are the name of a replay's brick: `brick-` and its number.
+fn is_replay_name(name: &[u8], brick: u16) -> bool
+    ensures { result ≡ bytes_eq (replay_name brick) name.now }
+{
+    let mut buffer = Buffer::new();
+    match name.strip_prefix(b"brick-") {
+        Some(number) => buffer.format(brick).as_bytes() == number,
+        None => false,
+    }
+}
+
+/// The brick of a replay's volume of so many bricks to which a linkto file of this value leads, as
+/// `linkto_brick` says. It needs no volume, and takes no memory.
+pub fn linkto_brick_of(bricks: u16, value: &[u8]) -> Option<BrickNo>
+    ensures { option_map (λ b. b.0) result ≡ linked_brick (replay_names bricks) value.now }
+{
+    let name = without_zero(value);
+    for brick in 0..bricks {
+        if is_replay_name(name, brick) {
+            return Some(BrickNo(brick));
+        }
+    }
+    None
 }
 
 /// A linkto value leads to the brick that it was written for, also where its zero byte was taken off,

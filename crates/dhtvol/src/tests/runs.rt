@@ -51,7 +51,7 @@ end\n\
 /// and what it writes.
 type Row = (&'static str, &'static str, u8, usize, &'static str);
 
-const RUNS: [Row; 21] = [
+const RUNS: [Row; 22] = [
     // A file is made, and then found.
     ("replay", SCHEDULE, 0, 2, TRANSCRIPT),
     // It is made once only.
@@ -289,6 +289,41 @@ step 9\n\
 volume 2 1 0\n\
 refused 2 unknown\n\
 refused 3 idle\n\
+brick 0 up\n\
+dir 0 00000000-0000-0000-0000-000000000001 000000000000000000000000ffffffff\n\
+brick 1 up\n\
+dir 1 00000000-0000-0000-0000-000000000001 -\n\
+end\n\
+",
+    ),
+    // Calls are refused before their first request; or they name what no call has answered.
+    (
+        "replay",
+        "\
+volume 2 1 0\n\
+call 0 create @ /\n\
+call 0 lookup @ %-\n\
+call 0 unlink @1 a\n\
+call 0 unlink @9 a\n\
+call 0 lookup 00000000-0000-0000-0000-000000000002 a\n\
+call 0 unlink @ aaaaaaaaaaaaaaaaaaaaaaaaaaaaaaaaaaaaaaaaaaaaaaaaaaaaaaaaaaaaaaaaaaaaaaaaaaaaaaaaaaaaaaaaaaaaaaaaaaaaaaaaaaaaaaaaaaaaaaaaaaaaaaaaaaaaaaaaaaaaaaaaaaaaaaaaaaaaaaaaaaaaaaaaaaaaaaaaaaaaaaaaaaaaaaaaaaaaaaaaaaaaaaaaaaaaaaaaaaaaaaaaaaaaaaaaaaaaaaaaaaaaaaaaaaaaaaaa\n\
+call 64 lookup @7 a\n\
+",
+        0,
+        2,
+        "\
+volume 2 1 0\n\
+call 1 0 create 00000000-0000-0000-0000-000000000001 /\n\
+answer 1 0 einval\n\
+call 2 0 lookup 00000000-0000-0000-0000-000000000001 %-\n\
+answer 2 0 einval\n\
+refused 4 answer\n\
+refused 5 answer\n\
+call 3 0 lookup 00000000-0000-0000-0000-000000000002 a\n\
+answer 3 0 at 8 estale\n\
+call 4 0 unlink 00000000-0000-0000-0000-000000000001 aaaaaaaaaaaaaaaaaaaaaaaaaaaaaaaaaaaaaaaaaaaaaaaaaaaaaaaaaaaaaaaaaaaaaaaaaaaaaaaaaaaaaaaaaaaaaaaaaaaaaaaaaaaaaaaaaaaaaaaaaaaaaaaaaaaaaaaaaaaaaaaaaaaaaaaaaaaaaaaaaaaaaaaaaaaaaaaaaaaaaaaaaaaaaaaaaaaaaaaaaaaaaaaaaaaaaaaaaaaaaaaaaaaaaaaaaaaaaaaaaaaaaaaaaaaaaaaa\n\
+answer 4 0 enametoolong\n\
+refused 8 unknown\n\
 brick 0 up\n\
 dir 0 00000000-0000-0000-0000-000000000001 000000000000000000000000ffffffff\n\
 brick 1 up\n\

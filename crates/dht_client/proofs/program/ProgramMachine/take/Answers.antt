@@ -1,11 +1,12 @@
 use Rattle.std.proofs.Common.{refl}
-use Rattle.dht_client.proofs.PartSteps.{goes_as, ends_as}
-use Rattle.dht_client.proofs.ProgramSteps.{is_lookup, is_create}
+use Rattle.dht_section.proofs.PartSteps.{goes_as, ends_as}
+use Rattle.dht_client.proofs.ProgramSteps.{is_lookup, is_create, is_unlink, create_never_shown, unlink_never_shown}
+use Rattle.dht_fileops.specs.Unlink.{unlink_stage}
 use Rattle.dht_client.specs.Create.{create_stage}
-use Rattle.dht_client.specs.Ended.{ended}
+use Rattle.dht_section.specs.Ended.{ended}
 use Rattle.dht_client.specs.Lookup.{lookup_stage}
 use Rattle.dht_client.specs.Program.{program_stage}
-use Rattle.dht_client.specs.declared.program.Program.TheVariants.{LookingUp, Creating}
+use Rattle.dht_client.specs.declared.program.Program.TheVariants.{LookingUp, Creating, Unlinking}
 use Rattle.dht_client.proofs.program.ProgramMachine.take.Goals as goal
 
 pub returns-in-Go-clause-moves : goal.returns-in-Go-clause-moves
@@ -19,3 +20,21 @@ returns-in-Go-take-clause-moves c = λ s t. goes_as (program_stage c.args.self) 
 
 pub returns-in-Done-take-clause-moves : goal.returns-in-Done-take-clause-moves
 returns-in-Done-take-clause-moves c = λ s t. ends_as (program_stage c.args.self) (create_stage c.in-Creating.call) (ended c.in-Done-take.end) c.args.reply c.args.at s t (is_create c.args.self c.in-Creating.call c.in-Creating.is) (c.in-Done-take.ensures.moves s t)
+
+pub returns-in-Go-take-clause-found : goal.returns-in-Go-take-clause-found
+returns-in-Go-take-clause-found c = λ f h. create_never_shown c.args.self c.in-Creating.call c.args.reply f c.in-Creating.is h
+
+pub returns-in-Done-take-clause-found : goal.returns-in-Done-take-clause-found
+returns-in-Done-take-clause-found c = λ f h. create_never_shown c.args.self c.in-Creating.call c.args.reply f c.in-Creating.is h
+
+pub returns-in-Go-take-2-clause-moves : goal.returns-in-Go-take-2-clause-moves
+returns-in-Go-take-2-clause-moves c = λ s t. goes_as (program_stage c.args.self) (unlink_stage c.in-Unlinking.call) (program_stage (Unlinking c.in-Go-take-2.call)) (unlink_stage c.in-Go-take-2.call) c.args.reply c.args.at s t (is_unlink c.args.self c.in-Unlinking.call c.in-Unlinking.is) (is_unlink (Unlinking c.in-Go-take-2.call) c.in-Go-take-2.call refl) (c.in-Go-take-2.ensures.moves s t)
+
+pub returns-in-Done-take-2-clause-moves : goal.returns-in-Done-take-2-clause-moves
+returns-in-Done-take-2-clause-moves c = λ s t. ends_as (program_stage c.args.self) (unlink_stage c.in-Unlinking.call) (ended c.in-Done-take-2.end) c.args.reply c.args.at s t (is_unlink c.args.self c.in-Unlinking.call c.in-Unlinking.is) (c.in-Done-take-2.ensures.moves s t)
+
+pub returns-in-Go-take-2-clause-found : goal.returns-in-Go-take-2-clause-found
+returns-in-Go-take-2-clause-found c = λ f h. unlink_never_shown c.args.self c.in-Unlinking.call c.args.reply f c.in-Unlinking.is h
+
+pub returns-in-Done-take-2-clause-found : goal.returns-in-Done-take-2-clause-found
+returns-in-Done-take-2-clause-found c = λ f h. unlink_never_shown c.args.self c.in-Unlinking.call c.args.reply f c.in-Unlinking.is h

@@ -1,10 +1,8 @@
-use Rattle.dht_section.proofs.ClosingSteps.{take_name, take_directory}
+use Rattle.std.proofs.Common.{sym, subst}
+use Rattle.dht_section.proofs.ClosingSteps.{closing_moves}
+use Rattle.dht_section.specs.Closing.{closing_stage}
+use Rattle.dht_section.specs.Stages.{Moves, answered}
 use Rattle.dht_section.proofs.closing.ClosingMachine.take.Goals as goal
 
-pub returns-in-UnlockingName-clause-moves : goal.returns-in-UnlockingName-clause-moves
-returns-in-UnlockingName-clause-moves c = λ s t v.
-    take_name c.args.self c.in-UnlockingName.location c.in-UnlockingName.finish c.args.reply c.args.at s t c.in-UnlockingName.is v
-
 pub returns-clause-moves : goal.returns-clause-moves
-returns-clause-moves c = λ s t v.
-    take_directory c.args.self c.in-UnlockingDirectory.field-0 c.in-UnlockingDirectory.finish c.args.reply c.args.at s t c.in-UnlockingDirectory.is v
+returns-clause-moves c = subst (λ turn. Moves closing_stage answered c.args.self c.args.reply c.args.at turn) (sym c.after.ensures) (closing_moves c.args.self c.args.reply c.args.at)

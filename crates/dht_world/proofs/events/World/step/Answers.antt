@@ -1,7 +1,8 @@
-use Rattle.std.proofs.Common.{sym, ◌≡◌, ◌∙◌, ap, subst, arith, ◌<◌, ◌^◌, ℕ, List, ◌∷◌, [], ◌++◌, append_assoc, get_or}
-use Rattle.std.specs.Prelude.{Bool, vec_len}
+use Rattle.std.proofs.Common.{sym, ◌≡◌, ◌∙◌, ap, subst, arith, ◌<◌, ◌+◌, ◌^◌, ℕ, List, ◌∷◌, [], ◌++◌, append_assoc, get_or}
+use Rattle.std.specs.Prelude.{Bool, Option, vec_len, slice_set}
 use Rattle.dht_types.specs.History.{history_of}
 use Rattle.dht_types.specs.declared.events.Event.TheVariants as event
+use Rattle.dht_types.specs.declared.identifiers.Gfid.{Gfid}
 use Rattle.dht_types.specs.declared.lines.Line.TheVariants.{Answered}
 use Rattle.dht_brick.specs.declared.journal.JournalEntry.{JournalEntry}
 use Rattle.dht_brick.proofs.ResultLemmas.{on_err}
@@ -10,10 +11,10 @@ use Rattle.dht_invariant.proofs.TransitionLaws.{transition_laws}
 use Rattle.dht_world.specs.Bricks.{disk_of, journals_of, AreReady}
 use Rattle.dht_world.specs.Clients.{client}
 use Rattle.dht_world.specs.Lines.{request_lines}
-use Rattle.dht_world.specs.Places.{counts_of}
+use Rattle.dht_world.specs.Places.{summary_of}
 use Rattle.dht_world.specs.World.{At}
 use Rattle.dht_world.proofs.PlaceLaws.{place_is, place_there, advances}
-use Rattle.dht_world.proofs.ReplyLaws.{step_busy, asks_there, asks_sent, step_down, answered_down, step_block, answered_block, step_on, step_answered}
+use Rattle.dht_world.proofs.ReplyLaws.{step_busy, asks_there, asks_sent, answer_there, step_down, answered_down, step_block, answered_block, step_on, step_answered}
 use Rattle.dht_world.proofs.events.World.step.Goals as goal
 
 pub returns-in-Some-clause-comes : goal.returns-in-Some-clause-comes
@@ -40,7 +41,8 @@ returns-in-Some-clause-comes g c = λ n past at.
       c.push_line.ensures.items ∙ (ap (λ zs. zs ++ end ∷ []) c.push_request.ensures.items ∙ append_assoc c.args.out.now.items xs (end ∷ [])),
       advances g.B.Brick g.C.Caller w _ n (event.Step who) past lines
           (record {
-            led = step_answered g.B.Brick g.C.Caller transition_laws g.met.C.Caller.stable g.met.C.Caller.permitted g.met.C.Caller.goes_on w past who c.index.result.now k a at accepted here v r bricks there.0 small served c.from-2.result c.push_request.result c.index_mut-place.result.now c.take.new.self y c.from-2.ensures same c.push_request.ensures.count c.in-Some.ensures;
+            led = subst (λ (answers : List (Option Gfid)). At g.C.Caller (disk_of g.B.Brick.state bricks) (journals_of g.B.Brick.state bricks) (slice_set w.clients.items c.from-2.result c.take.new.self) w.weights (record (summary_of w) { lines = w.lines + c.push_request.result + 1; requests = w.requests + 1; answers = answers }) (past ++ lines)) (sym c.keep_answer.ensures)
+                (step_answered g.B.Brick g.C.Caller transition_laws g.met.C.Caller.stable g.met.C.Caller.permitted g.met.C.Caller.goes_on w past who c.index.result.now k a at accepted here v r bricks there.0 small served c.from-2.result c.push_request.result c.index_mut-place.result.now c.take.new.self y c.from-2.ensures same c.push_request.ensures.count c.in-Some.ensures);
             ready = subst (λ (down : ℕ → Bool). AreReady g.B.Brick.state w.weights w.run down bricks) (sym (answered_down g.B.Brick g.C.Caller transition_laws g.met.C.Caller.stable g.met.C.Caller.permitted g.met.C.Caller.goes_on w past who c.index.result.now k a at accepted here v r bricks there.0 small served y))
                 (c.in_ok-reply.ensures.ready w.weights w.run (history_of past).down at.ready);
           })
@@ -82,8 +84,8 @@ returns-in_err-reply-clause-err g c = on_err c.from_residual.result (λ past at.
     let w = c.args.self.now in
     let failed = c.in_err-reply.ensures in
     let d = disk_of g.B.Brick.state c.serve_at.new.bricks.items in record {
-      led = subst (λ (js : ℕ → List JournalEntry). At g.C.Caller d js w.clients.items w.weights (counts_of w) past) (sym failed.journals)
-          (subst (λ (e : Disk). At g.C.Caller e (journals_of g.B.Brick.state w.bricks.items) w.clients.items w.weights (counts_of w) past) (sym failed.disk) at.led);
+      led = subst (λ (js : ℕ → List JournalEntry). At g.C.Caller d js w.clients.items w.weights (summary_of w) past) (sym failed.journals)
+          (subst (λ (e : Disk). At g.C.Caller e (journals_of g.B.Brick.state w.bricks.items) w.clients.items w.weights (summary_of w) past) (sym failed.disk) at.led);
       ready = failed.ready w.weights w.run (history_of past).down at.ready;
     })
 
@@ -120,3 +122,28 @@ take-requires g c =
     let there = place_there g.B.Brick g.C.Caller w was.past c.args.client.0 was.at accepted in
     let same = place_is w.clients.items c.args.client.0 c.index_mut-place.result.now there.1 (subst (λ (j : ℕ). c.index_mut-place.result.now ≡ get_or w.clients.items j c.index_mut-place.result.now) c.from-2.ensures c.index_mut-place.ensures.value) in
     step_busy g.B.Brick g.C.Caller transition_laws g.met.C.Caller.stable g.met.C.Caller.permitted g.met.C.Caller.goes_on w was.past c.args.client.0 c.index_mut-place.result.now was.at accepted same
+
+pub keep_answer-requires-clause-from_one : goal.keep_answer-requires-clause-from_one
+keep_answer-requires-clause-from_one g c =
+    let w = c.args.self.now in
+    let was = c.requires.accepted in
+    let accepted = was.accepted was.past was.at in
+    let there = place_there g.B.Brick g.C.Caller w was.past c.args.client.0 was.at accepted in
+    let few = c.requires.few in
+    let small : w.lines < 2 ^ 64 = omega arith in
+    let here = place_is w.clients.items c.args.client.0 c.index.result.now there.1 (subst (λ (j : ℕ). c.index.result.now ≡ get_or w.clients.items j c.index.result.now) c.from.ensures c.index.ensures) in
+    let served = c.in_ok-reply.ensures.ok w.weights w.run (history_of was.past).down was.at.ready in
+    (answer_there g.B.Brick g.C.Caller transition_laws g.met.C.Caller.stable g.met.C.Caller.permitted g.met.C.Caller.goes_on w was.past c.args.client.0 c.index.result.now c.next-ask.result.0 c.next-ask.result.1 was.at accepted here c.next-ask.ensures c.in_ok-reply.reply c.serve_at.new.bricks.items there.0 small served).0
+
+pub keep_answer-requires-clause-there : goal.keep_answer-requires-clause-there
+keep_answer-requires-clause-there g c =
+    let w = c.args.self.now in
+    let was = c.requires.accepted in
+    let accepted = was.accepted was.past was.at in
+    let there = place_there g.B.Brick g.C.Caller w was.past c.args.client.0 was.at accepted in
+    let few = c.requires.few in
+    let small : w.lines < 2 ^ 64 = omega arith in
+    let here = place_is w.clients.items c.args.client.0 c.index.result.now there.1 (subst (λ (j : ℕ). c.index.result.now ≡ get_or w.clients.items j c.index.result.now) c.from.ensures c.index.ensures) in
+    let served = c.in_ok-reply.ensures.ok w.weights w.run (history_of was.past).down was.at.ready in
+    let l = (answer_there g.B.Brick g.C.Caller transition_laws g.met.C.Caller.stable g.met.C.Caller.permitted g.met.C.Caller.goes_on w was.past c.args.client.0 c.index.result.now c.next-ask.result.0 c.next-ask.result.1 was.at accepted here c.next-ask.ensures c.in_ok-reply.reply c.serve_at.new.bricks.items there.0 small served).1 in
+    omega (arith, l, w.answers.ok.0)

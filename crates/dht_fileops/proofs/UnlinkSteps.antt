@@ -1,0 +1,454 @@
+-- The steps of an unlink.
+use Rattle.std.proofs.Common.{◌≡◌, ◌<◌, ◌+◌, ℕ, Bool, true, false, refl, sym, ◌∙◌, ap, subst, arith, List, [], ◌∷◌}
+use Rattle.std.specs.Prelude.{Option, Some, None, is_some, length, suc, nat_eq, nat_lt, ◌-◌, ◌&&◌, ◌||◌, if◌then◌else◌}
+use Rattle.std.specs.FinMap.{get}
+use Rattle.std.proofs.lemmas.Bool.Decides.{nat_tests}
+use Rattle.dht_types.proofs.PutLaws.{exact_gfid}
+use Rattle.dht_types.specs.Gfid.{Entry, root}
+use Rattle.dht_types.specs.History.{Deeds, Tells, deeds_after, is_carried}
+use Rattle.dht_types.specs.Tree.{Tree, Node, Do, Refuse, says, unlinked as tree_unlinked, answer_of}
+use Rattle.dht_types.specs.declared.calls.Answer.{Answer}
+use Rattle.dht_types.specs.declared.calls.Answer.TheVariants.{Done as IsDone, Fault}
+use Rattle.dht_types.specs.declared.calls.Call.{Call}
+use Rattle.dht_types.specs.declared.calls.Call.TheVariants.{Unlink as Called}
+use Rattle.dht_types.specs.declared.calls.TreeStep.{TreeStep}
+use Rattle.dht_types.specs.declared.calls.TreeStep.TheVariants.{RemoveFile}
+use Rattle.dht_types.specs.declared.errors.Errno.{Errno}
+use Rattle.dht_types.specs.declared.errors.Errno.TheVariants.{Enoent, Estale}
+use Rattle.dht_types.specs.declared.identifiers.Gfid.{Gfid}
+use Rattle.dht_types.specs.declared.locks.Mode.TheVariants.{Shared}
+use Rattle.dht_types.specs.declared.stored.DirRecord.{DirRecord}
+use Rattle.dht_types.specs.declared.stored.Main.{Main}
+use Rattle.dht_types.specs.declared.stored.Main.TheVariants.{File as AFile}
+use Rattle.dht_types.specs.declared.stored.Record.{Record}
+use Rattle.dht_types.specs.declared.stored.Slot.{Slot}
+use Rattle.dht_xattr.specs.declared.range.Range.{Range}
+use Rattle.dht_brick.specs.Contents.{Contents, dir, file, slot}
+use Rattle.dht_brick.specs.Kinds.{reply_kind}
+use Rattle.dht_brick.specs.Links.{links}
+use Rattle.dht_brick.specs.NameRows.{on_slot, when}
+use Rattle.dht_brick.specs.Outcome.{Outcome, in_dir, within, reply_in, left_by}
+use Rattle.dht_brick.specs.Parts.{is_file, is_live, is_plain, is_standlink, without_main}
+use Rattle.dht_brick.specs.Rows.{with_store}
+use Rattle.dht_brick.specs.declared.replies.Given.TheVariants as given
+use Rattle.dht_brick.specs.declared.replies.Reply.{Reply}
+use Rattle.dht_brick.specs.declared.replies.Reply.TheVariants as reply
+use Rattle.dht_brick.specs.declared.requests.NameRequest.{NameRequest}
+use Rattle.dht_brick.specs.declared.requests.NameRequest.TheVariants.{Unlink as Remove}
+use Rattle.dht_brick.specs.declared.requests.Request.TheVariants.{OnNames}
+use Rattle.dht_section.proofs.ClaimLaws.{claims_more}
+use Rattle.dht_section.proofs.ClosingSteps.{closes, closing_moves}
+use Rattle.dht_section.proofs.FileLaws.{live_by, main_record, nameless_by}
+use Rattle.dht_section.proofs.FirstSection.{one_fresh, one_knows, starts}
+use Rattle.dht_section.proofs.LocationLaws.{looked_is}
+use Rattle.dht_section.proofs.PartSteps.{part_served, part_goes_on, part_ends}
+use Rattle.dht_section.proofs.ReapSteps.{reap_again, reap_moves, reap_noted}
+use Rattle.dht_section.proofs.SceneLaws.{carried_sound, carried_step, fault_earned, new_is, real_is, row_moved, row_reply}
+use Rattle.dht_section.proofs.SectionParts.{either_none, fault_errors, gone_directory, gone_earned, never_unanswered, section_notes}
+use Rattle.dht_section.proofs.SectionSteps.{keeps_scope, leaves_unlocks, names_gone, notes_fault, section_moves}
+use Rattle.dht_section.proofs.ShownLaws.{in_dir_there}
+use Rattle.dht_section.proofs.TaughtLaws.{taught_at}
+use Rattle.dht_section.proofs.UnlockingSteps.{scope_moved}
+use Rattle.dht_section.specs.Again.{IsUnanswered}
+use Rattle.dht_section.specs.Claims.{Lock}
+use Rattle.dht_section.specs.Closing.{closing_after, closing_of, closing_stage}
+use Rattle.dht_section.specs.Disk.{dir_at, file_at, slot_at}
+use Rattle.dht_section.specs.Ended.{Learns, ended, gone_at}
+use Rattle.dht_section.specs.Faults.{NotesFault, brick_error, brick_fault, fault_for, part_fault}
+use Rattle.dht_section.specs.Location.{IsHeldAt, entry_at, located, scope_at, section_at}
+use Rattle.dht_section.specs.Looks.{IsNoDir, file_in}
+use Rattle.dht_section.specs.MayAnswerLaws.{may_answer_moved}
+use Rattle.dht_section.specs.Moves.{Guarantee, deeds_by, name_step, request_step, step_of}
+use Rattle.dht_section.specs.Reap.{EndsByFault, IsOrphan, first_reap, reap_after, reap_ending, reap_stage}
+use Rattle.dht_section.specs.Replies.{fault_of}
+use Rattle.dht_section.specs.Scene.{Scene, Sound, MayAnswer, fault_finish}
+use Rattle.dht_section.specs.Section.{HasScope, IsHeld, IsLooked, KeepsScope, LeavesUnlocks, NamesGone, Outlasts, UnlockingKnows, fault_now, found_shape, held_layout, held_looked, last_lock, opened_ending, opened_fault, section_after, section_fault, section_scope, section_stage, section_taught, turn_layout}
+use Rattle.dht_section.specs.Shapes.{either, node_of}
+use Rattle.dht_section.specs.Stages.{Served, GoesOn, EndsIn, Moves, MatchTurn, answered}
+use Rattle.dht_section.specs.Views.{links_to, view_of}
+use Rattle.dht_section.specs.Want.{Scoped}
+use Rattle.dht_section.specs.declared.closing.Closing.{Closing}
+use Rattle.dht_section.specs.declared.ended.Ended.{Ended}
+use Rattle.dht_section.specs.declared.location.Location.{Location}
+use Rattle.dht_section.specs.declared.looks.Looked.{Looked}
+use Rattle.dht_section.specs.declared.looks.Place.{Place}
+use Rattle.dht_section.specs.declared.looks.What.{What}
+use Rattle.dht_section.specs.declared.looks.What.TheVariants.{Absent, Dir, File}
+use Rattle.dht_section.specs.declared.machine.Ask.{Ask}
+use Rattle.dht_section.specs.declared.machine.Finish.{Finish}
+use Rattle.dht_section.specs.declared.machine.Turn.{Turn}
+use Rattle.dht_section.specs.declared.machine.Turn.TheVariants.{Go, Done}
+use Rattle.dht_section.specs.declared.reap.Reap.{Reap}
+use Rattle.dht_section.specs.declared.reap.Reap.TheVariants.{Sealing, Dropping}
+use Rattle.dht_section.specs.declared.section.Held.{Held}
+use Rattle.dht_section.specs.declared.section.Opened.{Opened}
+use Rattle.dht_section.specs.declared.section.Opened.TheVariants.{Held as Holding, Gone as IsGone, Stopped as IsStopped}
+use Rattle.dht_section.specs.declared.section.Section.{Section}
+use Rattle.dht_fileops.specs.Unlink.{IsLinked, IsUnlink, MayUnlink, Secures, StartsUnlink, closed, done_at, first_unlink, is_last, reaped, reaped_finish, refused_at, removed, removed_closing, removed_locks, unlink_after, unlink_answered, unlink_by, unlink_closed, unlink_fault, unlink_held, unlink_layout, unlink_opened, unlink_reaped, unlink_secured, unlink_stage, unlink_taught, unlink_unless, unlinked}
+use Rattle.dht_fileops.specs.UnlinkLaws.{linked_housed, linked_main, linked_says, linked_stands}
+use Rattle.dht_fileops.specs.declared.unlink.Removed.{Removed}
+use Rattle.dht_fileops.specs.declared.unlink.Unlink.{Unlink}
+use Rattle.dht_fileops.specs.declared.unlink.Unlink.TheVariants.{Securing, Unlinking, Reaping, Ending}
+
+-- an unlink went on so, or ended
+abbrev Went : Unlink → Reply → Scene → Turn Unlink Ended → Type 0
+Went m r t turn = MatchTurn turn (λ n. GoesOn (unlink_stage m) (unlink_stage n) r t) (λ d. EndsIn (unlink_stage m) (ended d) t)
+
+-- ---- what is known after the section
+
+call_moved : (l : Location) (s t : Scene) (a : Ask) (r : Reply) → IsUnlink l s → Guarantee s a r t → IsUnlink l t
+call_moved l s t a r h m = m.mine.call ∙ h
+
+-- a name that is not there is told to be missing
+says_missing : (p : Tree) (d : Gfid) (n : List ℕ) (g : Gfid) → p.dirs d ≡ true → p.names (d, n) ≡ None → answer_of (says p (Called d n) g) ≡ Some (Fault Enoent)
+says_missing p d n g e k = ap (λ b. answer_of (if b then tree_unlinked d n (p.names (d, n)) else Refuse Estale)) e ∙ ap (λ (o : Option Node). answer_of (tree_unlinked d n o)) k
+
+missing_earned : (bricks : ℕ) (l : Location) (x : Looked) (s : Scene) → x.sight.what ≡ Absent → IsUnlink l s → s.mine.deeds ≡ None → IsLooked bricks (entry_at l) x s → MayAnswer (refused_at Enoent x.at) s
+missing_earned bricks l x s e call fresh k = record {
+  point = x.at;
+  printed = refl;
+  after = k.saw.after;
+  before = k.saw.before;
+  tells = subst (λ (d : Option Deeds). Tells s.history s.mine.call d x.at (Fault Enoent)) (sym fresh)
+      (λ (g : Gfid). ap (λ (c : Call Gfid). answer_of (says (s.history.past x.at) c g)) call
+      ∙ says_missing (s.history.past x.at) l.directory l.name g k.saw.directory (k.saw.node ∙ ap (λ (y : What). node_of (found_shape (file_in y))) e));
+}
+
+-- ---- the section
+
+-- the locks are given back, and nothing has the name
+missing_step : (l : Location) (m : Section) (h : Held) (r : Reply) (t : Scene) → (held_looked h (entry_at l)).sight.what ≡ Absent → IsUnlink l t → IsHeldAt l h t → Outlasts m (Holding h) → EndsIn (section_stage m) (opened_ending (Holding h)) t → GoesOn (unlink_stage (Securing l m)) (unlink_stage (closed l h (refused_at Enoent (held_looked h (entry_at l)).at))) r t
+missing_step l m h r t e call held left ends =
+    let x = held_looked h (entry_at l) in
+    let earned = missing_earned h.scope.bricks l x t e call held.held.fresh.deeds (looked_is l h t held) in
+    part_ends (section_stage m) (unlink_stage (closed l h (refused_at Enoent x.at))) (opened_ending (Holding h)) 3 (λ s. Secures l m s) r t ends refl (omega arith) (closes h (refused_at Enoent x.at) t ends.earned earned).knows
+
+-- or a file has it
+linked_step : (l : Location) (m : Section) (h : Held) (p : Place) (r : Reply) (t : Scene) → file_in (held_looked h (entry_at l)).sight.what ≡ Some p → IsUnlink l t → IsHeldAt l h t → Outlasts m (Holding h) → EndsIn (section_stage m) (opened_ending (Holding h)) t → GoesOn (unlink_stage (Securing l m)) (unlink_stage (Unlinking p l h)) r t
+linked_step l m h p r t e call held left ends = part_ends (section_stage m) (unlink_stage (Unlinking p l h)) (opened_ending (Holding h)) 3 (λ s. Secures l m s) r t ends refl (omega arith) (record { call = call; held = held; there = e })
+
+held_by : (x : What) (l : Location) (m : Section) (h : Held) (r : Reply) (t : Scene) → (held_looked h (entry_at l)).sight.what ≡ x → IsNoDir x → IsUnlink l t → IsHeldAt l h t → Outlasts m (Holding h) → EndsIn (section_stage m) (opened_ending (Holding h)) t → GoesOn (unlink_stage (Securing l m)) (unlink_stage (unlink_by x l h)) r t
+held_by Absent l m h r t e file call held left ends = missing_step l m h r t e call held left ends
+held_by (Dir g) l m h r t e file call held left ends = absurd file
+held_by (File f b n) l m h r t e file call held left ends = linked_step l m h (record { brick = b; file = f }) r t (ap file_in e) call held left ends
+
+held_step : (l : Location) (m : Section) (h : Held) (r : Reply) (at : ℕ) (s t : Scene) → h.scope ≡ section_scope m → Outlasts m (Holding h) → EndsIn (section_stage m) (opened_ending (Holding h)) t → Served (unlink_stage (Securing l m)) r at s t → GoesOn (unlink_stage (Securing l m)) (unlink_stage (unlink_held l h)) r t
+held_step l m h r at s t scope left ends v =
+    let k = v.is_at.knows.1 in
+    let held : IsHeldAt l h t = record { held = ends.earned; scope = scope ∙ k.scope } in
+    held_by (held_looked h (entry_at l)).sight.what l m h r t refl (looked_is l h t held).file (call_moved l s t _ r k.call v.moved) held left ends
+
+refuses_unlink : (l : Location) (p : Tree) (g : Gfid) → p.dirs l.directory ≡ false → answer_of (says p (Called l.directory l.name) g) ≡ Some (Fault Estale)
+refuses_unlink l p g e = ap (λ b. answer_of (if b then tree_unlinked l.directory l.name (p.names (entry_at l)) else Refuse Estale)) e
+
+secured_step : (l : Location) (m : Section) (turn : Turn Section Opened) (r : Reply) (at : ℕ) (s t : Scene) → MatchTurn turn (λ n. GoesOn (section_stage m) (section_stage n) r t) (λ d. EndsIn (section_stage m) (opened_ending d) t) → KeepsScope m turn → NamesGone m turn → LeavesUnlocks m turn → Served (unlink_stage (Securing l m)) r at s t → Went (Securing l m) r t (unlink_secured l turn)
+secured_step l m (Go n) r at s t went same gone left v = part_goes_on (section_stage m) (section_stage n) 3 (λ s. Secures l m s) (λ s. Secures l n s) r t went (record { call = call_moved l s t _ r v.is_at.knows.1.call v.moved; scope = same ∙ v.is_at.knows.1.scope })
+secured_step l m (Done (Holding h)) r at s t went same gone left v = held_step l m h r at s t same left went v
+secured_step l m (Done (IsGone g line)) r at s t went same gone left v =
+    let k = v.is_at.knows in
+    record {
+      claims = went.claims;
+      earned = gone_earned l.directory (Called l.directory l.name) g line t (refuses_unlink l) (call_moved l s t _ r k.1.call v.moved) (gone_directory l (section_scope m) g k.1.scope gone) went.earned;
+    }
+secured_step l m (Done (IsStopped e)) r at s t went same gone left v = record { claims = went.claims; earned = went.earned }
+
+-- ---- the unlink
+
+-- what is known of its closing
+closing_knows : (p : Place) (l : Location) (k : Held) (f : Finish) (r : Reply) (at : ℕ) (s t : Scene) → MayAnswer f t → Served (unlink_stage (Unlinking p l k)) r at s t → (closing_stage (closing_of k f)).knows t
+closing_knows p l k f r at s t earned h =
+    let held = h.is_at.knows.held in
+    let some = held.held.order.some in
+    record { order = held.held.order; scope = scope_moved k.scope s t _ r held.held.fresh.scope h.moved; within = omega arith; earned = earned }
+
+closed_step : (p : Place) (l : Location) (k : Held) (f : Finish) (r : Reply) (at : ℕ) (s t : Scene) → MayAnswer f t → Served (unlink_stage (Unlinking p l k)) r at s t → GoesOn (unlink_stage (Unlinking p l k)) (unlink_stage (closed l k f)) r t
+closed_step p l k f r at s t earned h = record {
+  claims = claims_more _ r at s t _ h (λ b key i. i);
+  knows = closing_knows p l k f r at s t earned h;
+  nearer = λ u. (λ w. omega arith, omega arith);
+}
+
+done_earned : (p : Place) (l : Location) (k : Held) (r : Reply) (at : ℕ) (s t : Scene) → is_carried (reply_kind r) ≡ true → Served (unlink_stage (Unlinking p l k)) r at s t → MayAnswer (done_at at) t
+done_earned p l k r at s t e h =
+    let linked : IsLinked p l k s = h.is_at.knows in
+    let m = h.moved in
+    let begun = h.after.begun in
+    let line = h.line in
+    let step : TreeStep = RemoveFile l.directory l.name in
+    let done : step_of (OnNames (Remove l.directory l.name p.file)) m.real ≡ Some step = ap (λ (y : Reply). step_of (OnNames (Remove l.directory l.name p.file)) y) (real_is s t _ r m (carried_sound r e)) ∙ carried_step (Remove l.directory l.name p.file) r e in
+    let deeds : t.mine.deeds ≡ Some (deeds_after s.history.tree t.history.size s.mine.call None step) =
+    m.mine.deeds_are
+    ∙ (ap (λ (o : Option TreeStep). deeds_by s t.history.size o) done
+    ∙ ap (λ (d : Option Deeds). Some (deeds_after s.history.tree t.history.size s.mine.call d step)) linked.held.held.fresh.deeds) in
+    record {
+      point = at;
+      printed = refl;
+      after = omega arith;
+      before = omega arith;
+      tells = subst (λ (d : Option Deeds). Tells t.history t.mine.call d at IsDone) (sym deeds) (sym line, linked_says p l k s root h.before linked);
+    }
+
+-- ---- the row of the unlink
+
+abbrev unlink_outcome : Option DirRecord → Bool → Contents → Entry → Gfid → Outcome Contents
+unlink_outcome o v c e f = within (with_store c) (in_dir o (λ x. on_slot (Remove e.0 e.1 f) c.store e (when v (without_main (slot c.store e)))))
+
+-- where it was carried out, the files stay, and it shows how many links are left
+record RowDone (c new : Contents) (f : Gfid) (r : Reply) : Type 0 where
+  files : new.store.files ≡ c.store.files
+  live : is_live (file c.store f) ≡ true
+  shows : r ≡ reply.Ok (given.Links (links new.store.slots f))
+
+row_done : (o : Option DirRecord) (v : Bool) (c : Contents) (e : Entry) (f : Gfid) (r : Reply) → (v ≡ true → is_live (file c.store f) ≡ true) → r ≡ reply_in (unlink_outcome o v c e f) → is_carried (reply_kind r) ≡ true → RowDone c (left_by (unlink_outcome o v c e f) c) f r
+row_done None v c e f r live is k = absurd (let z : false ≡ true = sym (ap (λ y. is_carried (reply_kind y)) is) ∙ k in cc)
+row_done (Some x) true c e f r live is k = record { files = refl; live = live refl; shows = is }
+row_done (Some x) false c e f r live is k = absurd (let z : false ≡ true = sym (ap (λ y. is_carried (reply_kind y)) is) ∙ k in cc)
+
+and_right : (a b : Bool) → (a && b) ≡ true → b ≡ true
+and_right true b e = e
+and_right false b e = absurd (let z : false ≡ true = e in cc)
+
+unlink_done : (p : Place) (l : Location) (k : Held) (r : Reply) (s t : Scene) → is_carried (reply_kind r) ≡ true → Guarantee s (unlink_stage (Unlinking p l k)).asks r t → RowDone (s.disk.brick p.brick.0) (t.disk.brick p.brick.0) p.file r
+unlink_done p l k r s t e m =
+    let c : Contents = s.disk.brick p.brick.0 in
+    let row = row_moved s t _ r m (carried_sound r e) in
+    subst (λ (new : Contents). RowDone c new p.file r) (sym (new_is s t _ r m ∙ row.1))
+    (row_done (dir c.store l.directory) (is_plain p.file (slot c.store (entry_at l)).main && is_live (file c.store p.file)) c (entry_at l) p.file r (and_right _ _) row.0 e)
+
+-- ---- the file has no name left
+
+last_links : (n : ℕ) (r : Reply) → r ≡ reply.Ok (given.Links n) → is_last r ≡ true → n ≡ 0
+last_links n r e h = (let z : nat_eq n 0 ≡ true = sym (ap is_last e) ∙ h in grind (arith, nat_tests, z))
+
+live_record : (o : Option Record) → is_live o ≡ true → (r : Record) × ((o ≡ Some r) × (is_live (Some r) ≡ true))
+live_record None e = absurd (let z : false ≡ true = e in cc)
+live_record (Some r) e = (r, (refl, e))
+
+orphan_after : (p : Place) (l : Location) (k : Held) (r : Reply) (at : ℕ) (s t : Scene) → is_carried (reply_kind r) ≡ true → is_last r ≡ true → Served (unlink_stage (Unlinking p l k)) r at s t → IsOrphan (record { bricks = l.bricks; file = p.file; brick = p.brick }) t
+orphan_after p l k r at s t e last h =
+    let linked : IsLinked p l k s = h.is_at.knows in
+    let done = unlink_done p l k r s t e h.moved in
+    let fits = (linked_stands p l k s linked).fits in
+    let count = h.moved.disk.count in
+    let there : p.brick.0 < t.disk.count = omega arith in
+    let same : file_at t.disk p.brick.0 p.file ≡ file_at s.disk p.brick.0 p.file = ap (λ files. get files p.file) done.files in
+    let live = live_record (file_at t.disk p.brick.0 p.file) (ap is_live same ∙ done.live) in
+    record {
+      bricks = ap length h.moved.weights ∙ (linked.held.held.fresh.scope.bricks ∙ ap (λ (w : Scoped). w.bricks) linked.held.scope);
+      there = there;
+      nameless = nameless_by t p.file p.brick.0 live.0 h.after there live.1.0 live.1.1 (last_links _ r done.shows last);
+    }
+
+reaping_step : (p : Place) (l : Location) (k : Held) (r : Reply) (at : ℕ) (s t : Scene) → is_carried (reply_kind r) ≡ true → is_last r ≡ true → Served (unlink_stage (Unlinking p l k)) r at s t → GoesOn (unlink_stage (Unlinking p l k)) (unlink_stage (Reaping (first_reap l.bricks p.file p.brick) (removed l k at))) r t
+reaping_step p l k r at s t e last h = record {
+  claims = claims_more _ r at s t _ h (λ b key i. i);
+  knows = (orphan_after p l k r at s t e last h, closing_knows p l k (done_at at) r at s t (done_earned p l k r at s t e h) h);
+  nearer = λ u. (λ w. omega arith, omega arith);
+}
+
+unlinked_step : (p : Place) (l : Location) (k : Held) (r : Reply) (at : ℕ) (s t : Scene) (v : Bool) → is_last r ≡ v → is_carried (reply_kind r) ≡ true → Served (unlink_stage (Unlinking p l k)) r at s t → GoesOn (unlink_stage (Unlinking p l k)) (unlink_stage (if v then Reaping (first_reap l.bricks p.file p.brick) (removed l k at) else closed l k (done_at at))) r t
+unlinked_step p l k r at s t true last e h = reaping_step p l k r at s t e last h
+unlinked_step p l k r at s t false last e h = closed_step p l k (done_at at) r at s t (done_earned p l k r at s t e h) h
+
+-- ---- an unlink that finds its brick up is carried out
+
+-- the brick of the name has a live record of the file
+link_of : (f : Gfid) (p : Slot) → p.main ≡ Some (AFile f None) → links_to f p ≡ true
+link_of f p e = ap (λ (m : Option Main). is_file f m || is_standlink f p.standby) e ∙ ap (λ (b : Bool). b || is_standlink f p.standby) ((exact_gfid f f).1 refl)
+
+linked_live : (p : Place) (l : Location) (k : Held) (s : Scene) → Sound s → IsLinked p l k s → is_live (file_at s.disk p.brick.0 p.file) ≡ true
+linked_live p l k s sound h =
+    let there = (linked_stands p l k s h).fits in
+    let x = sound.kept.things.files p.file in
+    live_by (file_at s.disk p.brick.0 p.file)
+    (main_record s.disk.count (view_of s.disk p.file).records x.shape p.brick.0 x.records
+    (x.linked p.brick.0 (entry_at l) there (link_of p.file (slot_at s.disk p.brick.0 (entry_at l)) (linked_main p l k s h))) there)
+    (λ r e. sound.early.unmoved p.file p.brick.0 r there e)
+
+plain_if : (f : Gfid) (m : Option Main) (o : Option Record) → m ≡ Some (AFile f None) → is_live o ≡ true → (is_plain f m && is_live o) ≡ true
+plain_if f m o e k = ap (λ (x : Option Main). is_plain f x && is_live o) e ∙ (ap (λ (b : Bool). b && is_live o) ((exact_gfid f f).1 refl) ∙ k)
+
+carried_out : (p : Place) (l : Location) (k : Held) (r : Reply) (s t : Scene) → Sound s → fault_of r ≡ None → IsLinked p l k s → Guarantee s (unlink_stage (Unlinking p l k)).asks r t → is_carried (reply_kind r) ≡ true
+carried_out p l k r s t sound z h m =
+    let c : Contents = s.disk.brick p.brick.0 in
+    let plain : (is_plain p.file (slot c.store (entry_at l)).main && is_live (file c.store p.file)) ≡ true = plain_if p.file _ _ (linked_main p l k s h) (linked_live p l k s sound h) in
+    ap (λ (y : Reply). is_carried (reply_kind y)) (row_reply s t _ r m z
+    ∙ (ap (λ o. reply_in (within (with_store c) o)) (in_dir_there (dir c.store l.directory) _ (linked_housed p l k s sound h))
+    ∙ ap (λ b. reply_in (within (with_store c) (on_slot (Remove l.directory l.name p.file) c.store (entry_at l) (when b (without_main (slot c.store (entry_at l))))))) plain))
+
+answered_step : (p : Place) (l : Location) (k : Held) (r : Reply) (at : ℕ) (s t : Scene) (v : Bool) → is_carried (reply_kind r) ≡ v → fault_of r ≡ None → Served (unlink_stage (Unlinking p l k)) r at s t → GoesOn (unlink_stage (Unlinking p l k)) (unlink_stage (if v then unlinked p l k r at else Unlinking p l k)) r t
+answered_step p l k r at s t true e z h = unlinked_step p l k r at s t (is_last r) refl e h
+answered_step p l k r at s t false e z h = absurd (let q : true ≡ false = sym (carried_out p l k r s t h.before z h.is_at.knows h.moved) ∙ e in cc)
+
+unless_step : (p : Place) (l : Location) (k : Held) (r : Reply) (at : ℕ) (s t : Scene) (o : Option Errno) → fault_of r ≡ o → Served (unlink_stage (Unlinking p l k)) r at s t → GoesOn (unlink_stage (Unlinking p l k)) (unlink_stage (unlink_unless o p l k r at)) r t
+unless_step p l k r at s t None z h = answered_step p l k r at s t (is_carried (reply_kind r)) refl z h
+unless_step p l k r at s t (Some e) z h = closed_step p l k (fault_finish e) r at s t (fault_earned s t _ r e z h.moved) h
+
+-- ---- the reap
+
+-- a reap does no step
+no_deed : (locks : List Lock) (m : Reap) (r : Reply) → step_of (reap_stage locks m).asks.request r ≡ None
+no_deed locks (Sealing x) (reply.Ok g) = refl
+no_deed locks (Sealing x) r = refl
+no_deed locks (Dropping x) (reply.Ok g) = refl
+no_deed locks (Dropping x) r = refl
+
+deeds_kept : (locks : List Lock) (m : Reap) (r : Reply) (s t : Scene) → Guarantee s (reap_stage locks m).asks r t → t.mine.deeds ≡ s.mine.deeds
+deeds_kept locks m r s t g = g.mine.deeds_are ∙ ap (λ (o : Option TreeStep). deeds_by s t.history.size o) (no_deed locks m g.real)
+
+-- how it ends is still known
+beside_moved : (x : Removed) (m : Reap) (r : Reply) (s t : Scene) → (closing_stage (removed_closing x)).knows s → Guarantee s (reap_stage (removed_locks x) m).asks r t → (closing_stage (removed_closing x)).knows t
+beside_moved x m r s t h g = record {
+  order = h.order;
+  scope = scope_moved x.held.scope s t _ r h.scope g;
+  within = h.within;
+  earned = may_answer_moved (done_at x.at) s t _ r (deeds_kept (removed_locks x) m r s t g) g h.earned;
+}
+
+reap_some : (locks : List Lock) (m : Reap) → 0 < (reap_stage locks m).variant
+reap_some locks (Sealing x) = omega arith
+reap_some locks (Dropping x) = omega arith
+
+-- what was reaped ends with its answer, or the error of a brick
+reaped_knows : (x : Removed) (fault : Option Errno) (t : Scene) → (closing_stage (removed_closing x)).knows t → (reap_ending (removed_locks x) fault).earned t → (closing_stage (closing_of x.held (reaped_finish x fault))).knows t
+reaped_knows x None t h e = h
+reaped_knows x (Some errno) t h e = record { order = h.order; scope = h.scope; within = h.within; earned = e }
+
+reaped_step : (x : Removed) (m : Reap) (turn : Turn Reap (Option Errno)) (r : Reply) (at : ℕ) (s t : Scene) → MatchTurn turn (λ n. GoesOn (reap_stage (removed_locks x) m) (reap_stage (removed_locks x) n) r t) (λ d. EndsIn (reap_stage (removed_locks x) m) (reap_ending (removed_locks x) d) t) → Served (unlink_stage (Reaping m x)) r at s t → Went (Reaping m x) r t (unlink_reaped x turn)
+reaped_step x m (Go n) r at s t went v = part_goes_on (reap_stage (removed_locks x) m) (reap_stage (removed_locks x) n) (suc (last_lock x.held.scope)) (λ s. (closing_stage (removed_closing x)).knows s) (λ s. (closing_stage (removed_closing x)).knows s) r t went (beside_moved x m r s t v.is_at.knows.1 v.moved)
+reaped_step x m (Done fault) r at s t went v =
+    let some = reap_some (removed_locks x) m in
+    part_ends (reap_stage (removed_locks x) m) (unlink_stage (reaped x fault)) (reap_ending (removed_locks x) fault) (suc (last_lock x.held.scope)) (λ s. (closing_stage (removed_closing x)).knows s) r t went refl (omega arith)
+    (reaped_knows x fault t (beside_moved x m r s t v.is_at.knows.1 v.moved) went.earned)
+
+-- ---- the closing
+
+closing_step : (c : Closing) (learned : Option (List (Option Range))) (turn : Turn Closing Finish) (r : Reply) (t : Scene) → MatchTurn turn (λ n. GoesOn (closing_stage c) (closing_stage n) r t) (λ d. EndsIn (closing_stage c) (answered d) t) → Went (Ending c learned) r t (unlink_closed learned turn)
+closing_step c learned (Go n) r t went = went
+closing_step c learned (Done f) r t went = went
+
+-- ---- all of it
+
+pub unlink_moves : (m : Unlink) (r : Reply) (at : ℕ) → Moves unlink_stage ended m r at (unlink_after m r at)
+unlink_moves (Securing l m) r at s t v =
+    let part = part_served (section_stage m) 3 (λ s. Secures l m s) r at s t v in
+    secured_step l m (section_after m r at) r at s t (section_moves m r at s t part) (keeps_scope m r at) (names_gone m r at s v.is_at.knows.0) (leaves_unlocks m r at s v.is_at.knows.0) v
+unlink_moves (Unlinking p l k) r at s t v = unless_step p l k r at s t (fault_of r) refl v
+unlink_moves (Reaping m x) r at s t v =
+    let part = part_served (reap_stage (removed_locks x) m) (suc (last_lock x.held.scope)) (λ s. (closing_stage (removed_closing x)).knows s) r at s t v in
+    reaped_step x m (reap_after m r) r at s t (reap_moves (removed_locks x) m r at s t part) v
+unlink_moves (Ending c learned) r at s t v = closing_step c learned (closing_after c) r t (closing_moves c r at s t v)
+
+-- ---- what it learns
+
+held_learned : (x : What) (l : Location) (h : Held) → unlink_layout (unlink_by x l h) ≡ Some (held_layout h (entry_at l))
+held_learned Absent l h = refl
+held_learned (Dir g) l h = refl
+held_learned (File f b n) l h = refl
+
+secured_learns : (l : Location) (m : Section) (turn : Turn Section Opened) (r : Reply) → turn_layout (entry_at l) turn ≡ section_taught (entry_at l) m r → Learns unlink_layout unlink_taught (Securing l m) r (unlink_secured l turn)
+secured_learns l m (Go n) r e = ap (λ (o : Option (List (Option Range))). either o None) e
+secured_learns l m (Done (Holding h)) r e = held_learned (held_looked h (entry_at l)).sight.what l h ∙ ap (λ (o : Option (List (Option Range))). either o None) e
+secured_learns l m (Done (IsGone g at)) r e = refl
+secured_learns l m (Done (IsStopped x)) r e = refl
+
+unlinked_learns : (p : Place) (l : Location) (h : Held) (at : ℕ) (v : Bool) → unlink_layout (if v then Reaping (first_reap l.bricks p.file p.brick) (removed l h at) else closed l h (done_at at)) ≡ Some (held_layout h (entry_at l))
+unlinked_learns p l h at true = refl
+unlinked_learns p l h at false = refl
+
+answered_learns : (p : Place) (l : Location) (h : Held) (r : Reply) (at : ℕ) (v : Bool) → unlink_layout (if v then unlinked p l h r at else Unlinking p l h) ≡ Some (held_layout h (entry_at l))
+answered_learns p l h r at true = unlinked_learns p l h at (is_last r)
+answered_learns p l h r at false = refl
+
+unless_learns : (p : Place) (l : Location) (h : Held) (r : Reply) (at : ℕ) (o : Option Errno) → unlink_layout (unlink_unless o p l h r at) ≡ Some (held_layout h (entry_at l))
+unless_learns p l h r at None = answered_learns p l h r at (is_carried (reply_kind r))
+unless_learns p l h r at (Some e) = refl
+
+reaped_learns : (m : Reap) (x : Removed) (turn : Turn Reap (Option Errno)) (r : Reply) → Learns unlink_layout unlink_taught (Reaping m x) r (unlink_reaped x turn)
+reaped_learns m x (Go n) r = refl
+reaped_learns m x (Done fault) r = refl
+
+closed_learns : (c : Closing) (learned : Option (List (Option Range))) (turn : Turn Closing Finish) (r : Reply) → Learns unlink_layout unlink_taught (Ending c learned) r (unlink_closed learned turn)
+closed_learns c learned (Go n) r = refl
+closed_learns c learned (Done f) r = refl
+
+pub unlink_learns : (m : Unlink) (r : Reply) (at : ℕ) → Learns unlink_layout unlink_taught m r (unlink_after m r at)
+unlink_learns (Securing l m) r at = secured_learns l m (section_after m r at) r (taught_at (entry_at l) m r at 0)
+unlink_learns (Unlinking p l h) r at = unless_learns p l h r at (fault_of r)
+unlink_learns (Reaping m x) r at = reaped_learns m x (reap_after m r) r
+unlink_learns (Ending c learned) r at = closed_learns c learned (closing_after c) r
+
+-- ---- the error that it notes
+
+abbrev Notes : Unlink → Reply → Turn Unlink Ended → Type 0
+Notes m r turn = NotesFault unlink_fault m (unlink_stage m).asks.request r turn
+
+held_notes : (x : What) (l : Location) (h : Held) → unlink_fault (unlink_by x l h) ≡ None
+held_notes Absent l h = refl
+held_notes (Dir g) l h = refl
+held_notes (File f b n) l h = refl
+
+secured_notes : (l : Location) (m : Section) (turn : Turn Section Opened) (r : Reply) → MatchTurn turn (λ n. section_fault n ≡ fault_now m r) (λ d. opened_fault d ≡ fault_now m r) → Notes (Securing l m) r (unlink_secured l turn)
+secured_notes l m (Go n) r e = section_notes m r (section_fault n) e
+secured_notes l m (Done (Holding h)) r e = held_notes (held_looked h (entry_at l)).sight.what l h ∙ section_notes m r None e
+secured_notes l m (Done (IsGone g at)) r e = section_notes m r None e
+secured_notes l m (Done (IsStopped x)) r e = section_notes m r (Some x) e
+
+unlinked_notes : (p : Place) (l : Location) (h : Held) (at : ℕ) (v : Bool) → unlink_fault (if v then Reaping (first_reap l.bricks p.file p.brick) (removed l h at) else closed l h (done_at at)) ≡ None
+unlinked_notes p l h at true = refl
+unlinked_notes p l h at false = refl
+
+answered_notes : (p : Place) (l : Location) (h : Held) (r : Reply) (at : ℕ) (v : Bool) → unlink_fault (if v then unlinked p l h r at else Unlinking p l h) ≡ None
+answered_notes p l h r at true = unlinked_notes p l h at (is_last r)
+answered_notes p l h r at false = refl
+
+unless_notes : (p : Place) (l : Location) (h : Held) (r : Reply) (at : ℕ) (o : Option Errno) → fault_of r ≡ o → unlink_fault (unlink_unless o p l h r at) ≡ fault_of r
+unless_notes p l h r at None e = answered_notes p l h r at (is_carried (reply_kind r)) ∙ sym e
+unless_notes p l h r at (Some x) e = ap part_fault (sym e) ∙ fault_errors r
+
+reaped_fault : (x : Removed) (fault : Option Errno) → brick_fault (reaped_finish x fault).answer ≡ part_fault fault
+reaped_fault x None = refl
+reaped_fault x (Some e) = refl
+
+reaped_notes : (x : Removed) (turn : Turn Reap (Option Errno)) (r : Reply) → EndsByFault r turn → MatchTurn (unlink_reaped x turn) (λ n. unlink_fault n ≡ fault_of r) (λ d. ⊥)
+reaped_notes x (Go n) r e = sym e
+reaped_notes x (Done fault) r e = reaped_fault x fault ∙ (ap part_fault e ∙ fault_errors r)
+
+as_noted : (m : Reap) (x : Removed) (turn : Turn Unlink Ended) (r : Reply) → MatchTurn turn (λ n. unlink_fault n ≡ fault_of r) (λ d. ⊥) → Notes (Reaping m x) r turn
+as_noted (Sealing o) x (Go n) r e = e
+as_noted (Sealing o) x (Done d) r e = absurd e
+as_noted (Dropping o) x (Go n) r e = e
+as_noted (Dropping o) x (Done d) r e = absurd e
+
+closed_notes : (c : Closing) (learned : Option (List (Option Range))) (r : Reply) (v : Bool) → Notes (Ending c learned) r (unlink_closed learned (if v then Go (record { scope = c.scope; place = c.place - 1; finish = c.finish }) else Done c.finish))
+closed_notes c learned r true = either_none (brick_fault c.finish.answer)
+closed_notes c learned r false = either_none (brick_fault c.finish.answer)
+
+pub unlink_notes : (m : Unlink) (r : Reply) (at : ℕ) → Notes m r (unlink_after m r at)
+unlink_notes (Securing l m) r at = secured_notes l m (section_after m r at) r (notes_fault m r at)
+unlink_notes (Unlinking p l h) r at = unless_notes p l h r at (fault_of r) refl
+unlink_notes (Reaping m x) r at = as_noted m x (unlink_reaped x (reap_after m r)) r (reaped_notes x (reap_after m r) r (reap_noted m r))
+unlink_notes (Ending c learned) r at = closed_notes c learned r (nat_lt 0 c.place)
+
+-- ---- what it sends again
+
+unless_again : (p : Place) (l : Location) (h : Held) (r : Reply) (at : ℕ) → fault_of r ≡ None → is_carried (reply_kind r) ≡ false → unlink_answered p l h r at ≡ Unlinking p l h
+unless_again p l h r at z e = ap (λ (o : Option Errno). unlink_unless o p l h r at) z ∙ ap (λ (v : Bool). if v then unlinked p l h r at else Unlinking p l h) e
+
+pub unlink_again : (m : Unlink) (r : Reply) (at : ℕ) → IsUnanswered (unlink_stage m) r → unlink_after m r at ≡ Go m
+unlink_again (Securing l m) r at h = absurd (never_unanswered m r h)
+unlink_again (Unlinking p l k) r at h = ap Go (unless_again p l k r at h.0 h.1)
+unlink_again (Reaping (Sealing o) x) r at h = ap (unlink_reaped x) (reap_again (removed_locks x) (Sealing o) r h)
+unlink_again (Reaping (Dropping o) x) r at h = ap (unlink_reaped x) (reap_again (removed_locks x) (Dropping o) r h)
+unlink_again (Ending c learned) r at h = absurd h.1
+
+-- ---- its beginning
+
+pub first_knows : (bricks : ℕ) (d : Gfid) (n : List ℕ) (s : Scene) → MayUnlink bricks d n s → (unlink_stage (first_unlink bricks d n)).knows s
+first_knows bricks d n s h = (one_knows bricks d Shared n s (one_fresh bricks d Shared n s h.count h.home h.deeds), record { call = h.call; scope = refl })
+
+pub first_starts : (bricks : ℕ) (d : Gfid) (n : List ℕ) → StartsUnlink bricks d (unlink_stage (first_unlink bricks d n))
+first_starts bricks d n =
+    let x = starts bricks d Shared n in
+    let v = x.variant in
+    record { brick = x.brick; request = x.request; claims = x.claims; variant = omega arith }

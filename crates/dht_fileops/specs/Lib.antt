@@ -1,0 +1,2 @@
+pub mod Unlink
+pub mod UnlinkLaws

@@ -1,0 +1,75 @@
+-- A section of one name that is held.
+use Rattle.std.proofs.Common.{◌≡◌, ◌<◌, ℕ, true, sym, ◌∙◌, ap, subst, arith}
+use Rattle.std.specs.Prelude.{Some, length, Contains, List, []}
+use Rattle.dht_types.proofs.PutLaws.{exact_gfid}
+use Rattle.dht_types.specs.Gfid.{Entry, root, home}
+use Rattle.dht_types.specs.declared.identifiers.Gfid.{Gfid}
+use Rattle.dht_hash.specs.DaviesMeyer.{dm}
+use Rattle.dht_hash.proofs.DaviesMeyerLaws.{dm_below}
+use Rattle.dht_xattr.specs.Layout.{holder}
+use Rattle.dht_xattr.proofs.PlanLaws.{planned_holder}
+use Rattle.dht_section.proofs.HeldLaws.{found_is, holder_is, root_holder_is, directory_is}
+use Rattle.dht_section.proofs.SameLists.{at_first}
+use Rattle.dht_section.specs.Disk.{holder_of, layout_of}
+use Rattle.dht_section.specs.Rely.{Rely}
+use Rattle.dht_section.specs.Scene.{Scene, Sound, HoldsName}
+use Rattle.dht_section.specs.Section.{HasScope, IsHeld, IsLooked, IsWanted, held_holder, held_looked}
+use Rattle.dht_section.specs.SectionLaws.{bricks_are, holds_name, is_held_stable}
+use Rattle.dht_section.specs.Want.{Scoped, name_at}
+use Rattle.dht_section.specs.declared.section.Held.{Held}
+use Rattle.dht_section.specs.Location.{IsHeldAt, entry_at, scope_at}
+use Rattle.dht_section.specs.declared.location.Location.{Location}
+
+pub held_at_stable : (l : Location) (h : Held) (s t : Scene) → IsHeldAt l h s → Rely s t → IsHeldAt l h t
+held_at_stable l h s t k o = record { held = is_held_stable h s t k.held o; scope = k.scope }
+
+-- the name was wanted, so it stands as it was found
+wanted : (l : Location) (h : Held) → h.scope ≡ scope_at l → IsWanted h (entry_at l)
+wanted l h e = subst (λ (w : Scoped). Contains w.names (entry_at l)) (sym e) (at_first (entry_at l) [])
+
+pub looked_is : (l : Location) (h : Held) (s : Scene) → IsHeldAt l h s → IsLooked h.scope.bricks (entry_at l) (held_looked h (entry_at l)) s
+looked_is l h s k = found_is h (entry_at l) s k.held (wanted l h k.scope)
+
+-- its directory is one of the tree, so it is the root, the one directory
+pub in_tree : (l : Location) (h : Held) (s : Scene) → Sound s → IsHeldAt l h s → s.history.tree.dirs l.directory ≡ true
+in_tree l h s sound k = directory_is h (entry_at l) s sound k.held (wanted l h k.scope)
+
+pub tree_root : (g : Gfid) (s : Scene) → Sound s → home g < s.disk.count → s.history.tree.dirs g ≡ true → g ≡ root
+tree_root g s sound there h = (exact_gfid g root).0 (sym (sound.early.alone (home g) g there) ∙ (sym (sound.kept.things.dirs g).homed ∙ h))
+
+-- its home is a brick of the volume
+pub home_there : (l : Location) (w : Scoped) (s : Scene) → w ≡ scope_at l → HasScope w s → home l.directory < w.bricks
+home_there l w s e h = subst (λ (v : Scoped). home l.directory < v.bricks) (sym e) ((subst (λ (v : Scoped). HasScope v s) e h).homes 0 (omega arith))
+
+pub root_is : (l : Location) (h : Held) (s : Scene) → Sound s → IsHeldAt l h s → l.directory ≡ root
+root_is l h s sound k =
+    let there = home_there l h.scope s k.scope k.held.fresh.scope in
+    let bricks = bricks_are h.scope s sound k.held.fresh.scope in
+    tree_root l.directory s sound (omega arith) (in_tree l h s sound k)
+
+-- its lock is held, and that of its directory
+pub name_held : (l : Location) (h : Held) (s : Scene) → IsHeldAt l h s → HoldsName s (entry_at l)
+name_held l h s k =
+    let one : 0 < length h.scope.names = subst (λ (w : Scoped). 0 < length w.names) (sym k.scope) (omega arith) in
+    subst (λ (e : Entry). HoldsName s e) (ap (λ (w : Scoped). name_at w 0) k.scope) (holds_name h.scope 0 s k.held.order one k.held.holds)
+
+-- by the layout that was read, a brick of the volume holds the name
+pub record HasHolder (l : Location) (h : Held) (s : Scene) : Type 0 where
+  pub brick : ℕ
+  pub there : brick < s.disk.count
+  pub holds : held_holder h (entry_at l) ≡ Some brick
+
+pub held_holder_is : (l : Location) (h : Held) (b : ℕ) (s : Scene) → Sound s → IsHeldAt l h s → held_holder h (entry_at l) ≡ Some b → holder_of s.disk (entry_at l) ≡ Some b
+held_holder_is l h b s sound k e = holder_is h (entry_at l) b s sound k.held (wanted l h k.scope) e
+
+pub has_holder : (l : Location) (h : Held) (s : Scene) → Sound s → IsHeldAt l h s → HasHolder l h s
+has_holder l h s sound k =
+    let w = planned_holder s.history.weights root (dm l.name) sound.kept.heavy (dm_below l.name) in
+    let counted = sound.kept.counted in
+    let there = w.1 in
+    let rooted = root_is l h s sound k in
+    record {
+      brick = w.0;
+      there = omega arith;
+      holds = root_holder_is h (entry_at l) s sound k.held (wanted l h k.scope) rooted ∙ (ap (λ g. holder (layout_of s.disk g) (dm l.name)) rooted ∙ (ap (λ ranges. holder ranges (dm l.name)) sound.early.planned ∙ w.2));
+    }

@@ -1,0 +1,8 @@
+//! What no contract says of the section and of an unlink: that their requests come in the order that is
+//! wanted, driven by hand.
+#![tactic(auto)]
+
+#[cfg(test)]
+mod sections;
+#[cfg(test)]
+mod unlinks;
