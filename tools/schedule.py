@@ -12,6 +12,7 @@ import re
 READ = frozenset(
     {
         "volume",
+        "remount",
         "call",
         "step",
         "down",
@@ -262,14 +263,12 @@ class Grammar:
         if kind in VERBS:
             raise Malformed(f"`{kind}` is a verb, and stands in a call line, as `call 0 {kind} ..`")
         self.check_is_read(kind, KINDS, "kind of line")
-        rules = {
-            "volume": self.check_volume,
-            "remount": self.check_volume,
-            "call": self.check_call,
-            "poke": self.check_poke,
-        }
-        if kind in rules:
-            rules[kind](words)
+        if kind in ("volume", "remount"):
+            self.check_volume(kind, words)
+        elif kind == "call":
+            self.check_call(words)
+        elif kind == "poke":
+            self.check_poke(words)
         else:
             self.check_event(kind, words)
 
@@ -361,10 +360,10 @@ class Grammar:
             if form:
                 self.check_word(form, word)
 
-    def check_volume(self, words):
+    def check_volume(self, kind, words):
         """The number of bricks, their weights, and what may follow."""
         if not words:
-            raise Malformed("`volume` takes the number of bricks and a weight for each")
+            raise Malformed(f"`{kind}` takes the number of bricks and a weight for each")
         bricks = number(words[0], "number of bricks")
         if not 1 <= bricks <= MOST_BRICKS:
             raise Malformed(f"a volume has 1 to {MOST_BRICKS} bricks, and not {bricks}")

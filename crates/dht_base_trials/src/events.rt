@@ -18,6 +18,10 @@ const TABLE: &str = "
     read |up 31| = up 31
     read |die 64| = die 64
     read |volume 3 0 1000 0| = volume [0, 1000, 0]
+    read |remount 3 0 1000 0| = remount [0, 1000, 0]
+    read |remount 1 1| = remount [1]
+    read |remount 32 1 0 0 0 0 0 0 0 0 0 0 0 0 0 0 0 0 0 0 0 0 0 0 0 0 0 0 0 0 0 0 7| = \
+remount [1, 0, 0, 0, 0, 0, 0, 0, 0, 0, 0, 0, 0, 0, 0, 0, 0, 0, 0, 0, 0, 0, 0, 0, 0, 0, 0, 0, 0, 0, 0, 7]
     read |call 0 lookup @ a| = call 0 lookup root [61]
     read |call 63 create @ a| = call 63 create root [61]
     read |call 2 unlink @ a| = call 2 unlink root [61]
@@ -70,7 +74,6 @@ call 0 unlink gfid ffffffff-ffff-ffff-ffff-ffffffffffff [61]
     read |die 18446744073709551616| = malformed
     read |cut 0| = malformed
     read |fail 0| = malformed
-    read |remount 1 1| = malformed
     read |volume| = malformed
     read |volume 1| = malformed
     read |volume 0| = malformed
@@ -83,6 +86,19 @@ call 0 unlink gfid ffffffff-ffff-ffff-ffff-ffffffffffff [61]
     read |volume 1 65537| = malformed
     read |volume 1 18446744073709551617| = malformed
     read |volume 33 1 0 0 0 0 0 0 0 0 0 0 0 0 0 0 0 0 0 0 0 0 0 0 0 0 0 0 0 0 0 0 0 0| = malformed
+    read |remount| = malformed
+    read |remount 1| = malformed
+    read |remount 0| = malformed
+    read |remount 2 0 0| = malformed
+    read |remount 2 1| = malformed
+    read |remount 1 1 0| = malformed
+    read |remount 1 01| = malformed
+    read |remount 01 1| = malformed
+    read |remount 1 1001| = malformed
+    read |remount 1 65537| = malformed
+    read |remount 1 1 | = malformed
+    read |remounts 1 1| = malformed
+    read |remount 33 1 0 0 0 0 0 0 0 0 0 0 0 0 0 0 0 0 0 0 0 0 0 0 0 0 0 0 0 0 0 0 0 0| = malformed
     read |call| = malformed
     read |call 0| = malformed
     read |call 0 create| = malformed
@@ -154,6 +170,7 @@ fn call_told(alloc: Global, call: &Call<Directory>) -> Result<String, AllocError
 fn told(alloc: Global, read: Result<Event, LineFault>) -> Result<String, AllocError> {
     match read {
         Ok(Event::Volume(weights)) => format!(in alloc; "volume {:?}", weights.as_slice()),
+        Ok(Event::Remount(weights)) => format!(in alloc; "remount {:?}", weights.as_slice()),
         Ok(Event::Call(client, call)) => {
             format!(in alloc; "call {client} {}", call_told(alloc, &call)?)
         }

@@ -16,6 +16,7 @@ use std::test::Fail;
 
 const TRANSCRIPT: &str = "\
 volume 2 0 7
+remount 3 7 0 1000
 call 12 1 lookup 00000000-0000-0000-0000-000000000001 a%20b%25%7f
 call 12 1 create 00000000-0000-0000-0000-000000000001 a%20b%25%7f
 call 12 1 unlink 00000001-0000-0000-0000-000000010002 %-
@@ -26,6 +27,8 @@ refused 7 dead
 refused 7 busy
 refused 7 idle
 refused 7 answer
+refused 7 open
+refused 7 fewer
 wait 12 1 3 63
 down 3
 up 3
@@ -91,12 +94,14 @@ const NAME: &[u8] = b"a b%\x7f";
 /// The file of the lines.
 const MADE: Gfid = Gfid(0x1_0000_0000_0000_0000_0001_0002);
 
-const CAUSES: [Cause; 5] = [
+const CAUSES: [Cause; 7] = [
     Cause::Unknown,
     Cause::Dead,
     Cause::Busy,
     Cause::Idle,
     Cause::Answer,
+    Cause::Open,
+    Cause::Fewer,
 ];
 
 const ANSWERS: [(Option<u64>, Answer); 9] = [
@@ -111,7 +116,7 @@ const ANSWERS: [(Option<u64>, Answer); 9] = [
     (None, Answer::Fault(Errno::Eio)),
 ];
 
-/// The volume line, the lines of calls, and of what they did to the tree.
+/// The lines of volumes, of calls, and of what these did to the tree.
 fn called(alloc: Global, call: CallNo, client: ClientNo) -> Result<Vec<Line>, AllocError> {
     let (root, name) = (Gfid::ROOT, Name::of(NAME));
     let looked_up = Bytes::new(NAME.to_vec(alloc)?);
@@ -119,6 +124,7 @@ fn called(alloc: Global, call: CallNo, client: ClientNo) -> Result<Vec<Line>, Al
     let none = Bytes::new(Vec::new(alloc));
     Ok(vec![in alloc;
         Line::Volume(Weights::new(vec![in alloc; 0, 7]?)),
+        Line::Remounted(Weights::new(vec![in alloc; 7, 0, 1000]?)),
         Line::Called(call, client, Call::Lookup(root, looked_up)),
         Line::Called(call, client, Call::Create(root, made)),
         Line::Called(call, client, Call::Unlink(MADE, none)),

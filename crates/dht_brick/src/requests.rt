@@ -8,6 +8,7 @@ use dht_guard::FileRow;
 use dht_types::bytes::Bytes;
 use dht_types::identifiers::{BrickNo, CallNo, Gfid};
 use dht_types::lines::RequestKind;
+use dht_types::linktos::LinktoValue;
 use dht_types::locks::{Key, Mode};
 use dht_types::names::Name;
 
@@ -39,7 +40,7 @@ pub enum NameRequest {
     /// Makes a new, empty file at a name of a directory.
     Create(Gfid, Name, Gfid),
     /// Puts a linkto of this value at a name.
-    MakeLinkto(Gfid, Name, Bytes),
+    MakeLinkto(Gfid, Name, LinktoValue),
     /// Takes the linkto at a name away.
     DropLinkto(Gfid, Name),
     /// Takes the name of this file away.

@@ -65,7 +65,7 @@ fn on_names(kind: &str, words: &mut Words<'_>) -> Option<NameRequest>
     ensures may { IfSome result (NameMayBeSent words.old.bricks) }
 {
     Some(match kind {
-        "mklinkto" => NameRequest::MakeLinkto(words.gfid(), words.name(), words.bytes()),
+        "mklinkto" => NameRequest::MakeLinkto(words.gfid(), words.name(), words.linkto()),
         "droplinkto" => NameRequest::DropLinkto(words.gfid(), words.name()),
         "dropdir" => NameRequest::DropDir(words.gfid(), words.name(), words.gfid()),
         "create" => NameRequest::Create(words.gfid(), words.name(), words.gfid()),

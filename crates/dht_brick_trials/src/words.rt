@@ -7,6 +7,7 @@ ghost use Rattle.dht_types.specs.Saved.{IsValue};
 use crate::fault::Fault;
 use dht_types::bytes::Bytes;
 use dht_types::identifiers::{BrickNo, Gfid};
+use dht_types::linktos::{LONGEST_LINKTO, LinktoValue};
 use dht_types::locks::{Key, Mode};
 use dht_types::names::{LONGEST_NAME, Name};
 use std::alloc::Global;
@@ -196,6 +197,19 @@ impl<'a> Words<'a> {
                 Bytes::new(Vec::new(self.alloc))
             }
         }
+    }
+
+    /// The value of a linkto, spelled as bytes are.
+    pub(crate) fn linkto(&mut self) -> LinktoValue
+        ensures same { self.new.bricks ≡ self.old.bricks }
+        ensures short { IsValue result }
+    {
+        let bytes = self.bytes();
+        if bytes.as_slice().len() > LONGEST_LINKTO {
+            self.is_refused = true;
+            return LinktoValue::new(&[]);
+        }
+        LinktoValue::new(bytes.as_slice())
     }
 
     /// The attribute of a directory, or none: `-`.

@@ -1,7 +1,7 @@
 //! `ComesFrom` and `InTime`: whether a line comes from the event whose turn it is, and in time.
 
 use crate::history::{
-    answered, bricks, call_running, calls, is_dead, is_down, is_undisturbed, requests,
+    answered, bricks, call_running, calls, is_dead, is_down, is_quiet, is_undisturbed, requests,
 };
 use crate::legal::refusal_at_once;
 use crate::verdict::{Definition, require};
@@ -51,10 +51,22 @@ fn is_named(past: &[Line], call: &Call<Gfid>, event: &Call<Directory>) -> bool {
     is_same_verb && is_same_directory && call.name() == event.name()
 }
 
+/// Why it is refused to mount the volume anew with so many bricks, if it is: a call is running, or
+/// there would be fewer bricks.
+fn remount_cause(past: &[Line], count: u64) -> Option<Cause> {
+    if !is_quiet(past) {
+        return Some(Cause::Open);
+    }
+    (count < bricks(past)).then_some(Cause::Fewer)
+}
+
 /// The first cause for which an event is refused after these lines, if there is one.
 fn cause(past: &[Line], event: &Event) -> Option<Cause> {
     let client = match event {
         Event::Volume(_) => return None,
+        Event::Remount(weights) => {
+            return remount_cause(past, weights.as_slice().len() as u64);
+        }
         Event::Down(brick) | Event::Up(brick) => {
             return (*brick >= bricks(past)).then_some(Cause::Unknown);
         }
@@ -77,23 +89,28 @@ fn cause(past: &[Line], event: &Event) -> Option<Cause> {
     }
 }
 
-/// Whether a brick may reply so. It is down exactly where the lines say so, but it carries out an
+/// Whether the volume has this brick.
+fn is_there(past: &[Line], brick: BrickNo) -> bool {
+    u64::from(brick.0) < bricks(past)
+}
+
+/// Whether a brick may reply so. It is down exactly where the lines say so, but it carries out every
 /// unlock; it does not fail; and that a lock waits is told by another line.
 fn may_reply(past: &[Line], brick: BrickNo, kind: RequestKind, reply: ReplyKind) -> bool {
-    match reply {
-        ReplyKind::Wait | ReplyKind::Failed => false,
-        ReplyKind::Down => is_down(past, brick) && kind != RequestKind::Unlock,
-        ReplyKind::Ok | ReplyKind::Refused(_) | ReplyKind::NoMemory => {
-            !is_down(past, brick) || kind == RequestKind::Unlock
-        }
-    }
+    let may_be = match (kind, reply) {
+        (_, ReplyKind::Wait | ReplyKind::Failed) => false,
+        (RequestKind::Unlock, _) => reply == ReplyKind::Ok,
+        (_, ReplyKind::Down) => is_down(past, brick),
+        (_, ReplyKind::Ok | ReplyKind::Refused(_) | ReplyKind::NoMemory) => !is_down(past, brick),
+    };
+    may_be && is_there(past, brick)
 }
 
 /// Whether a lock that a client asked for may wait for this one, which holds it: it is another one,
 /// in a call of its own. A brick that is down lets nobody wait.
 fn may_wait(past: &[Line], client: ClientNo, brick: BrickNo, holder: ClientNo) -> bool {
     let has_call = call_running(past, u64::from(holder.0)).is_some();
-    client != holder && has_call && !is_down(past, brick)
+    client != holder && has_call && !is_down(past, brick) && is_there(past, brick)
 }
 
 /// `IsStep`: whether the line is a step of the client's call, or tells that its lock waits.
@@ -125,7 +142,10 @@ fn is_head(past: &[Line], number: u64, event: &Event, line: &Line) -> Result<(),
         return require(is_refused, Definition::Head);
     }
     let is_head = match (event, line) {
-        (Event::Volume(weights), Line::Volume(told)) => told.as_slice() == weights.as_slice(),
+        (Event::Volume(weights), Line::Volume(told))
+        | (Event::Remount(weights), Line::Remounted(told)) => {
+            told.as_slice() == weights.as_slice()
+        }
         (Event::Call(client, call), Line::Called(nth, who, what)) => {
             nth.0 == calls(past).saturating_add(1)
                 && u64::from(who.0) == *client

@@ -183,11 +183,22 @@ pub fn answered(past: &[Line], number: u64) -> Option<Gfid> {
 pub fn bricks(past: &[Line]) -> u64 {
     let mut count = 0;
     for line in past {
-        if let Line::Volume(weights) = line {
+        if let Line::Volume(weights) | Line::Remounted(weights) = line {
             count = weights.as_slice().len() as u64;
         }
     }
     count
+}
+
+/// The number of the run, which is 1 until the volume is mounted anew.
+pub fn run(past: &[Line]) -> u32 {
+    let mut number = 1u32;
+    for line in past {
+        if let Line::Remounted(_) = line {
+            number = number.saturating_add(1);
+        }
+    }
+    number
 }
 
 /// How many step lines and wait lines there are.
@@ -212,12 +223,14 @@ pub fn was_replied(past: &[Line], call: CallNo, reply: ReplyKind) -> bool {
     found
 }
 
-/// Whether a client has died.
+/// Whether a client has died in this run.
 pub fn is_dead(past: &[Line], client: u64) -> bool {
     let mut found = false;
     for line in past {
-        if let Line::Died(who) = line {
-            found = found || u64::from(who.0) == client;
+        match line {
+            Line::Died(who) => found = found || u64::from(who.0) == client,
+            Line::Remounted(_) => found = false,
+            _ => {}
         }
     }
     found
@@ -255,7 +268,7 @@ pub fn is_clean(past: &[Line]) -> bool {
 }
 
 /// Whether no client's call is running after these lines.
-fn is_quiet(past: &[Line]) -> bool {
+pub fn is_quiet(past: &[Line]) -> bool {
     let mut is_quiet = true;
     for line in past {
         if let Line::Called(number, client, _) = line {

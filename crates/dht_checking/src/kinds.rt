@@ -82,12 +82,14 @@ pub const ERRORS: [(&str, Errno); 9] = [
 ];
 
 /// The word of each cause for which an event is refused.
-pub const CAUSES: [(&str, Cause); 5] = [
+pub const CAUSES: [(&str, Cause); 7] = [
     ("unknown", Cause::Unknown),
     ("dead", Cause::Dead),
     ("busy", Cause::Busy),
     ("idle", Cause::Idle),
     ("answer", Cause::Answer),
+    ("open", Cause::Open),
+    ("fewer", Cause::Fewer),
 ];
 
 /// What a word stands for in a table of words.

@@ -1,17 +1,14 @@
 //! `Legal`: whether a line may come next.
 
 use crate::history::{
-    Deed, Running, Said, Told, call_running, calls, file_at, has_file, is_dead, is_directory,
-    line_owed, made_in, says, slot_of, was_replied,
+    Deed, Running, Said, Told, bricks, call_running, calls, file_at, has_file, is_dead,
+    is_directory, is_quiet, line_owed, made_in, run, says, slot_of, was_replied,
 };
 use crate::verdict::{Definition, require};
 use dht_types::calls::{Answer, Call, TreeStep};
 use dht_types::errors::Errno;
 use dht_types::identifiers::{BrickNo, CallNo, ClientNo, Gfid};
 use dht_types::lines::{Line, ReplyKind, RequestKind};
-
-/// The number of the run.
-const RUN: u32 = 1;
 
 fn is_same_step(told: &Told<'_>, step: &TreeStep) -> bool {
     match (*told, step) {
@@ -73,16 +70,16 @@ fn fits(past: &[Line], step: &TreeStep) -> bool {
     }
 }
 
-/// `IsOwn`: whether a gfid is one that this call of this client makes, with some home.
-fn is_own(client: ClientNo, number: CallNo, gfid: Gfid) -> bool {
+/// `IsOwn`: whether a gfid is one that this call of this client makes in a run, with some home.
+fn is_own(run: u32, client: ClientNo, number: CallNo, gfid: Gfid) -> bool {
     let home = BrickNo((gfid.0 % 0x1_0000) as u16);
-    Gfid::made(RUN, client, number, home) == gfid
+    Gfid::made(run, client, number, home) == gfid
 }
 
 /// `MakesOwn`: whether the file that a step makes, if it makes one, is this call's own.
-fn makes_own(client: ClientNo, number: CallNo, step: &TreeStep) -> bool {
+fn makes_own(run: u32, client: ClientNo, number: CallNo, step: &TreeStep) -> bool {
     match step {
-        TreeStep::AddFile(_, _, file) => is_own(client, number, *file),
+        TreeStep::AddFile(_, _, file) => is_own(run, client, number, *file),
         TreeStep::RemoveFile(_, _) => true,
     }
 }
@@ -195,7 +192,7 @@ fn tree_follows(past: &[Line], number: CallNo, step: &TreeStep) -> Result<(), De
         None => return Err(Definition::IsIn),
     }
     require(fits(past, step), Definition::Fits)?;
-    let makes_own = makes_own(owed.client, number, step);
+    let makes_own = makes_own(run(past), owed.client, number, step);
     require(makes_own, Definition::IsOwn)
 }
 
@@ -207,6 +204,10 @@ pub fn follows(past: &[Line], line: &Line) -> Result<(), Definition> {
     require(line_owed(past).is_none(), Definition::Follows)?;
     match line {
         Line::Volume(_) => require(past.is_empty(), Definition::Follows),
+        Line::Remounted(weights) => {
+            let takes_none_away = bricks(past) <= weights.as_slice().len() as u64;
+            require(is_quiet(past) && takes_none_away, Definition::Follows)
+        }
         Line::Called(number, client, _) => {
             let is_idle = call_running(past, u64::from(client.0)).is_none();
             let is_next = number.0 == calls(past).saturating_add(1);

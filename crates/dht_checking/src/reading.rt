@@ -15,6 +15,12 @@ use std::alloc::{AllocError, Global};
 /// The most bytes of a line of a schedule, its newline included.
 const LONGEST_LINE: usize = 16_384;
 
+/// The most bricks that a volume has.
+const MOST_BRICKS: usize = 32;
+
+/// The greatest weight of a brick.
+const GREATEST_WEIGHT: u16 = 1_000;
+
 /// A number in decimal, with no sign and no zero in front.
 pub fn number(word: &str) -> Option<u64> {
     let is_padded = word.len() > 1 && word.starts_with('0');
@@ -96,6 +102,19 @@ fn directory(word: &str) -> Option<Directory> {
     }
 }
 
+/// Whether bricks of these weights make a volume: there are not too many, none is too heavy, and not
+/// all are without weight.
+fn is_volume(weights: &[u16]) -> bool {
+    let mut has_weight = false;
+    for weight in weights {
+        if *weight > GREATEST_WEIGHT {
+            return false;
+        }
+        has_weight = has_weight || *weight > 0;
+    }
+    has_weight && weights.len() <= MOST_BRICKS
+}
+
 /// The weights of a volume of so many bricks.
 fn weights(alloc: Global, count: &str, words: &[&str]) -> Result<Option<Weights>, AllocError> {
     let mut each = Vec::new(alloc);
@@ -106,7 +125,8 @@ fn weights(alloc: Global, count: &str, words: &[&str]) -> Result<Option<Weights>
         each.push(weight)?;
     }
     let is_counted = number(count) == Some(each.len() as u64);
-    Ok(is_counted.then_some(Weights::new(each)))
+    let makes_volume = is_counted && is_volume(each.as_slice());
+    Ok(makes_volume.then_some(Weights::new(each)))
 }
 
 fn event_of_words(words: &[&str]) -> Option<Event> {
@@ -133,6 +153,7 @@ pub fn event(alloc: Global, text: &str) -> Result<Option<Event>, AllocError> {
     let words: Vec<&str> = text.split(' ').collect(alloc)?;
     match words.as_slice() {
         ["volume", count, rest @ ..] => Ok(weights(alloc, count, rest)?.map(Event::Volume)),
+        ["remount", count, rest @ ..] => Ok(weights(alloc, count, rest)?.map(Event::Remount)),
         ["call", who, verb, at, called] => {
             let name = name(alloc, called)?;
             Ok(name.and_then(|name| event_of_call(who, verb, at, name)))
@@ -211,6 +232,7 @@ pub fn line(alloc: Global, text: &str) -> Result<Option<Line>, AllocError> {
     let words: Vec<&str> = text.split(' ').collect(alloc)?;
     match words.as_slice() {
         ["volume", count, rest @ ..] => Ok(weights(alloc, count, rest)?.map(Line::Volume)),
+        ["remount", count, rest @ ..] => Ok(weights(alloc, count, rest)?.map(Line::Remounted)),
         ["call", nth, who, verb, at, called] => {
             let name = name(alloc, called)?;
             Ok(name.and_then(|name| line_of_call(nth, who, verb, at, name)))

@@ -1,5 +1,5 @@
 -- The first step of a client.
-use Rattle.std.proofs.Common.{◌≡◌, ◌<◌, ◌≤◌, ◌+◌, ◌^◌, ℕ, List, length, refl, sym, ◌∙◌, ap, arith, Bool, true, false}
+use Rattle.std.proofs.Common.{◌≡◌, ◌<◌, ◌≤◌, ◌+◌, ◌*◌, ◌^◌, ℕ, List, length, refl, sym, ◌∙◌, ap, arith, Bool, true, false}
 use Rattle.std.specs.Prelude.{Option, Some, None, is_some, nat_lt, if◌then◌else◌}
 use Rattle.dht_types.specs.Calls.{directory_of, name_of, first_refusal, refusal_at_once, refusal_at_start, refusal_of_home}
 use Rattle.dht_types.specs.Cost.{cost}
@@ -11,29 +11,28 @@ use Rattle.dht_types.specs.declared.errors.Errno.TheVariants.{Estale}
 use Rattle.dht_types.specs.declared.calls.Call.TheVariants.{Lookup, Create, Unlink}
 use Rattle.dht_types.specs.declared.identifiers.CallNo.{CallNo}
 use Rattle.dht_types.specs.declared.locks.Mode.TheVariants.{Shared}
-use Rattle.dht_types.specs.declared.identifiers.ClientNo.{ClientNo}
 use Rattle.dht_types.specs.declared.identifiers.Gfid.{Gfid}
 use Rattle.dht_brick.specs.declared.requests.NameRequest.TheVariants.{Look}
 use Rattle.dht_brick.specs.declared.requests.Request.TheVariants.{OnNames}
 use Rattle.dht_xattr.specs.declared.range.Range.{Range}
 use Rattle.dht_section.specs.Begins.{Begins}
 use Rattle.dht_section.specs.Scene.{Scene}
-use Rattle.dht_section.proofs.FirstSection.{one_fresh, one_knows, starts}
-use Rattle.dht_section.specs.Section.{IsFresh, begun, section_stage}
+use Rattle.dht_section.proofs.FirstSection.{starts}
+use Rattle.dht_section.specs.Location.{located, prepared_at, section_at}
+use Rattle.dht_section.specs.Section.{begun, section_stage}
+use Rattle.dht_section.specs.declared.location.Location.{Location}
 use Rattle.dht_section.specs.declared.machine.Ask.{Ask}
 use Rattle.dht_section.specs.declared.section.Prepared.{Prepared}
+use Rattle.dht_resolve.proofs.LookupSteps.{first_knows as lookup_knows, first_steps as lookup_bound}
+use Rattle.dht_resolve.specs.Lookup.{aimed_at, first_lookup, holder_in, lookup_fault, lookup_layout, lookup_stage}
+use Rattle.dht_resolve.specs.declared.lookup.Lookup.{Lookup as ALookup}
+use Rattle.dht_resolve.specs.declared.lookup.Lookup.TheVariants.{LookingAtHolder, LookingEverywhere}
+use Rattle.dht_fileops.proofs.CreateSteps.{first_knows as create_knows, first_starts as create_starts}
 use Rattle.dht_fileops.proofs.UnlinkSteps.{first_knows as unlink_knows, first_starts as unlink_starts}
-use Rattle.dht_client.proofs.LookupSteps.{aimed_ready}
 use Rattle.dht_client.specs.Client.{client_layout, first_program, first_lock, first_look, first_ask, first_claim, most_steps}
-use Rattle.dht_client.specs.Layout.{holder_in}
-use Rattle.dht_section.specs.Location.{located, scope_at, prepared_at, section_at}
-use Rattle.dht_section.specs.declared.location.Location.{Location}
-use Rattle.dht_client.specs.Lookup.{IsLookup, aimed_at, first_lookup, lookup_fault, lookup_layout, lookup_stage}
 use Rattle.dht_client.specs.Program.{program_stage, program_fault, program_layout}
 use Rattle.dht_client.specs.declared.calling.Client.{Client}
 use Rattle.dht_client.specs.declared.program.Program.{Program}
-use Rattle.dht_client.specs.declared.lookup.LookupCall.{LookupCall}
-use Rattle.dht_client.specs.declared.lookup.LookupCall.TheVariants.{LookingAtHolder, Securing}
 
 -- a program of a call whose name is there
 pub first_is : (c : Client) (ws : List ℕ) (run : ℕ) (k : CallNo) (what : Call Gfid) (l : Location) (p : Program) → l ≡ located (length ws) (directory_of what) (name_of what) → p ≡ first_program c l.bricks run k what → p ≡ first_program c (length ws) run k what
@@ -56,55 +55,46 @@ later_refusal (Some x) b e = absurd (let z : Some x ≡ None = e in cc)
 call_home : (bricks : ℕ) (what : Call Gfid) → refusal_at_start bricks what ≡ None → home (directory_of what) < bricks
 call_home bricks what e = home_is bricks (directory_of what) (later_refusal (refusal_at_once what) (refusal_of_home bricks (directory_of what)) e)
 
--- a call at its beginning is fresh
-fresh_first : (c : ClientNo) (ws : List ℕ) (run : ℕ) (k : CallNo) (what : Call Gfid) (d : Gfid) (n : List ℕ) (s : Scene) → home d < length ws → Begins c ws run k what s → IsFresh (scope_at (located (length ws) d n)) s
-fresh_first c ws run k what d n s there b = one_fresh (length ws) d Shared n s (ap length b.weights) there b.fresh
-
-lookup_first : (known : Option (List (Option Range))) (l : Location) (s : Scene) → IsLookup l s → IsFresh (scope_at l) s → (lookup_stage (first_lookup l known)).knows s
-lookup_first None l s call fresh = record { call = call; ready = refl; fresh = fresh; within = λ some. some }
-lookup_first (Some ranges) l s call fresh = (aimed_ready l (prepared_at l) None (holder_in ranges l.name) s refl call fresh).knows
-
 pub first_knows : (c : Client) (ws : List ℕ) (run : ℕ) (k : CallNo) (what : Call Gfid) (s : Scene) → k.0 < 2 ^ 64 → refusal_at_start (length ws) what ≡ None → Begins c.number ws run k what s → (program_stage (first_program c (length ws) run k what)).knows s
 unfolding program_stage
-first_knows c ws run k (Lookup d n) s small e b = lookup_first (client_layout c d) (located (length ws) d n) s b.call (fresh_first c.number ws run k (Lookup d n) d n s (call_home (length ws) (Lookup d n) e) b)
-first_knows c ws run k (Create d n) s small e b = (
-  one_knows (length ws) d Shared n s (fresh_first c.number ws run k (Create d n) d n s (call_home (length ws) (Create d n) e) b),
-  record {
-    comes = record { call = b.call; run = sym b.run; client = sym b.who; number = sym b.number; small = small };
-    scope = refl;
-  },
-)
+first_knows c ws run k (Lookup d n) s small e b = lookup_knows (located (length ws) d n) (client_layout c d) s (record { count = ap length b.weights; home = call_home (length ws) (Lookup d n) e; call = b.call; deeds = b.fresh })
+first_knows c ws run k (Create d n) s small e b = create_knows (length ws) d n (record { run = run; client = c.number; call = k }) s (record {
+  count = ap length b.weights;
+  home = call_home (length ws) (Create d n) e;
+  comes = record { call = b.call; run = sym b.run; client = sym b.who; number = sym b.number; small = small };
+  deeds = b.fresh;
+})
 first_knows c ws run k (Unlink d n) s small e b = unlink_knows (length ws) d n s (record { count = ap length b.weights; home = call_home (length ws) (Unlink d n) e; call = b.call; deeds = b.fresh })
 
 -- ---- what it asks and claims, and how many requests it sends
 
 -- a fact of each lookup that knows the layout
-by_aim : (P : LookupCall → Type 0) (l : Location) (p : Prepared) (learned : Option (List (Option Range))) (o : Option ℕ) → P (Securing l (begun p) learned) → ((b : ℕ) → P (LookingAtHolder (record { location = l; holder = record { 0 = b } }) p learned)) → P (aimed_at l p learned o)
+by_aim : (P : ALookup → Type 0) (l : Location) (p : Prepared) (learned : Option (List (Option Range))) (o : Option ℕ) → P (LookingEverywhere l (begun p) learned) → ((b : ℕ) → P (LookingAtHolder (record { location = l; brick = record { 0 = b }; learned = learned }) p)) → P (aimed_at l p learned o)
 by_aim P l p learned None everywhere at = everywhere
 by_aim P l p learned (Some b) everywhere at = by (nat_lt b l.bricks)
   where
-    by : (v : Bool) → P (if v then LookingAtHolder (record { location = l; holder = record { 0 = b } }) p learned else Securing l (begun p) learned)
+    by : (v : Bool) → P (if v then LookingAtHolder (record { location = l; brick = record { 0 = b }; learned = learned }) p else LookingEverywhere l (begun p) learned)
     by true = at b
     by false = everywhere
 
-lookup_steps : (known : Option (List (Option Range))) (l : Location) (n : ℕ) (d : Gfid) (m : List ℕ) → l.bricks ≡ n → (lookup_stage (first_lookup l known)).variant ≤ most_steps (is_some known) n (Lookup d m)
-lookup_steps None l n d m e = omega arith
-lookup_steps (Some ranges) l n d m e = by_aim (λ c. (lookup_stage c).variant ≤ n + 5) l (prepared_at l) None (holder_in ranges l.name) (let v = (starts l.bricks l.directory Shared l.name).variant in omega arith) (λ b. omega arith)
+lookup_steps : (known : Option (List (Option Range))) (bricks : ℕ) (d : Gfid) (n : List ℕ) → (lookup_stage (first_lookup (located bricks d n) known)).variant ≤ most_steps (is_some known) bricks (Lookup d n)
+lookup_steps None bricks d n = lookup_bound (located bricks d n) None
+lookup_steps (Some ranges) bricks d n = lookup_bound (located bricks d n) (Some ranges)
 
-create_steps : (known : Bool) (n : ℕ) (d : Gfid) (m : List ℕ) → most_steps known n (Create d m) ≡ n + 5
+create_steps : (known : Bool) (n : ℕ) (d : Gfid) (m : List ℕ) → most_steps known n (Create d m) ≡ 2 * n + 5
 create_steps true n d m = refl
 create_steps false n d m = refl
 
-unlink_steps : (known : Bool) (n : ℕ) (d : Gfid) (m : List ℕ) → most_steps known n (Unlink d m) ≡ n + 7
+unlink_steps : (known : Bool) (n : ℕ) (d : Gfid) (m : List ℕ) → most_steps known n (Unlink d m) ≡ 2 * n + 7
 unlink_steps true n d m = refl
 unlink_steps false n d m = refl
 
 pub first_steps : (c : Client) (bricks run : ℕ) (k : CallNo) (what : Call Gfid) → (program_stage (first_program c bricks run k what)).variant ≤ most_steps (is_some (client_layout c (directory_of what))) bricks what
 unfolding program_stage
-first_steps c bricks run k (Lookup d n) = lookup_steps (client_layout c d) (located bricks d n) bricks d n refl
+first_steps c bricks run k (Lookup d n) = lookup_steps (client_layout c d) bricks d n
 first_steps c bricks run k (Create d n) =
     let e = create_steps (is_some (client_layout c d)) bricks d n in
-    let v = (starts bricks d Shared n).variant in
+    let v = (create_starts bricks d n (record { run = run; client = c.number; call = k })).variant in
     omega arith
 first_steps c bricks run k (Unlink d n) =
     let e = unlink_steps (is_some (client_layout c d)) bricks d n in
@@ -126,7 +116,7 @@ looked_first : (d : Gfid) (n ws : List ℕ) (o : Option ℕ) → (lookup_stage (
 looked_first d n ws None = section_asked d n ws
 looked_first d n ws (Some b) = by (nat_lt b (length ws))
   where
-    by : (v : Bool) → (lookup_stage (if v then LookingAtHolder (record { location = located (length ws) d n; holder = record { 0 = b } }) (prepared_at (located (length ws) d n)) None else Securing (located (length ws) d n) (section_at (located (length ws) d n)) None)).asks ≡ (if v then record { brick = record { 0 = b }; request = OnNames (Look d n) } else first_lock d ws)
+    by : (v : Bool) → (lookup_stage (if v then LookingAtHolder (record { location = located (length ws) d n; brick = record { 0 = b }; learned = None }) (prepared_at (located (length ws) d n)) else LookingEverywhere (located (length ws) d n) (section_at (located (length ws) d n)) None)).asks ≡ (if v then record { brick = record { 0 = b }; request = OnNames (Look d n) } else first_lock d ws)
     by true = refl
     by false = section_asked d n ws
 

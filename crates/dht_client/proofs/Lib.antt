@@ -1,5 +1,3 @@
 pub mod FoundLaws
-pub mod LookupSteps
-pub mod CreateSteps
 pub mod ProgramSteps
 pub mod ClientSteps

@@ -1,6 +1,5 @@
 -- Where a client is: where its running call is.
-use Rattle.std.specs.Prelude.{ℕ, ◌+◌, ◌*◌, ◌≡◌, Bool, true, false, is_some, nat_lt, ◌==◌, if◌then◌else◌, Option, Some, None, MatchOption, List, [], ◌∷◌, length}
-use Rattle.dht_types.specs.Calls.{directory_of}
+use Rattle.std.specs.Prelude.{ℕ, ◌+◌, ◌*◌, ◌≡◌, ◌⊎◌, Bool, true, false, is_some, nat_lt, ◌==◌, if◌then◌else◌, Option, Some, None, MatchOption, List, [], ◌∷◌, length}
 use Rattle.dht_types.specs.Gfid.{root, anchor}
 use Rattle.dht_types.specs.declared.errors.Errno.{Errno}
 use Rattle.dht_types.specs.declared.identifiers.Gfid.{Gfid}
@@ -21,26 +20,25 @@ use Rattle.dht_section.specs.Stages.{Stage}
 use Rattle.dht_section.specs.declared.machine.Ask.{Ask}
 use Rattle.dht_section.specs.declared.machine.Finish.{Finish}
 use Rattle.dht_section.specs.Location.{located}
+use Rattle.dht_resolve.specs.Cache.{CachedLayout, cached, layout_at}
+use Rattle.dht_resolve.specs.Lookup.{first_lookup, holder_in}
+use Rattle.dht_fileops.specs.Create.{first_create}
 use Rattle.dht_fileops.specs.Unlink.{first_unlink}
-use Rattle.dht_client.specs.Create.{first_create}
-use Rattle.dht_client.specs.Layout.{holder_in, layout_in, learned_in}
-use Rattle.dht_client.specs.Lookup.{first_lookup}
 use Rattle.dht_client.specs.Program.{program_stage, program_fault, program_layout, program_taught}
 use Rattle.dht_client.specs.declared.program.Program.{Program}
 use Rattle.dht_client.specs.declared.program.Program.TheVariants.{LookingUp, Creating, Unlinking}
 use Rattle.dht_client.specs.declared.calling.Client.{Client}
 use Rattle.dht_client.specs.declared.calling.Running.{Running}
-use Rattle.dht_client.specs.declared.layout.Known.{Known}
 
 abbrev pub client_number : Client → ClientNo
 client_number c = c.number
 
--- the layout that it knows, with its directory; and that of a directory, if it knows it
-abbrev pub client_known : Client → Option Known
-client_known c = c.known
+-- the layouts that it knows, with their directories; and that of a directory, if it knows it
+abbrev pub client_cache : Client → List CachedLayout
+client_cache c = c.cache
 
 abbrev pub client_layout : Client → Gfid → Option (List (Option Range))
-client_layout c g = layout_in c.known g
+client_layout c g = layout_at c.cache g
 
 abbrev pub client_is_busy : Client → Bool
 client_is_busy c = is_some c.pending
@@ -90,40 +88,61 @@ running_directory (Some x) = Some x.directory
 abbrev pub client_directory : Client → Option Gfid
 client_directory c = running_directory c.pending
 
--- what is known after a call in this directory, if there is one
-abbrev pub known_after : Option Gfid → Option (List (Option Range)) → Option Known → Option Known
-known_after None learned known = known
-known_after (Some g) learned known = learned_in known g learned
+-- memory for a directory that was not in the cache was refused: the cache is as it was
+pub record WasRefused (g : Gfid) (old new : List CachedLayout) : Type 0 where
+  pub absent : layout_at old g ≡ None
+  pub stays : new ≡ old
 
--- a call learns the layout that a reply teaches, and its client knows it as its directory's from its end on
-pub record CallLearns (old : Client) (r : Reply) (answer : Option Finish) (new : Client) : Type 0 where
-  pub learns : MatchOption answer (client_learned new ≡ either (client_taught old r) (client_learned old)) (λ f. Unit {0})
+-- a layout that a call in this directory has learned is put in the cache, unless memory is refused
+abbrev pub IsLearned : Gfid → Option (List (Option Range)) → (old new : List CachedLayout)
+    → Type 0
+IsLearned g None old new = new ≡ old
+IsLearned g (Some layout) old new = (new ≡ cached old g layout) ⊎ WasRefused g old new
+
+-- what a client remembers after a call in this directory, if there was one
+abbrev pub Remembers : Option Gfid → Option (List (Option Range)) → (old new : List CachedLayout)
+    → Type 0
+Remembers None learned old new = new ≡ old
+Remembers (Some g) learned old new = IsLearned g learned old new
+
+-- a call learns the layout that a reply teaches, and its client remembers it from its end on
+pub record CallLearns (old : Client) (r : Reply) (answer : Option Finish) (new : Client)
+    : Type 0 where
+  pub learns : MatchOption answer
+      (client_learned new ≡ either (client_taught old r) (client_learned old)) (λ f. Unit {0})
   pub directory : MatchOption answer (client_directory new ≡ client_directory old) (λ f. Unit {0})
-  pub knows : MatchOption answer (client_known new ≡ client_known old) (λ f. client_known new ≡ known_after (client_directory old) (client_learned old) (client_known old))
+  pub knows : MatchOption answer (client_cache new ≡ client_cache old)
+      (λ f. Remembers (client_directory old) (client_learned old) (client_cache old)
+      (client_cache new))
 
 -- the program of a call at its beginning, over so many bricks
 abbrev pub first_program : Client → ℕ → ℕ → CallNo → Call Gfid → Program
-first_program c bricks run k (Lookup d n) = LookingUp (first_lookup (located bricks d n) (client_layout c d))
-first_program c bricks run k (Create d n) = Creating (first_create (located bricks d n) (record { run = run; client = c.number; call = k }))
+first_program c bricks run k (Lookup d n) =
+    LookingUp (first_lookup (located bricks d n) (client_layout c d))
+first_program c bricks run k (Create d n) =
+    Creating (first_create bricks d n (record { run = run; client = c.number; call = k }))
 first_program c bricks run k (Unlink d n) = Unlinking (first_unlink bricks d n)
-
--- what a client runs then
-abbrev pub first_running : Client → ℕ → ℕ → CallNo → Call Gfid → Running
-first_running c bricks run k call = record { directory = directory_of call; program = first_program c bricks run k call }
 
 -- the first request of a part under locks
 abbrev pub first_lock : Gfid → List ℕ → Ask
-first_lock d ws = record { brick = record { 0 = if length ws == 0 then 0 else anchor d (length ws) }; request = Lock (Dir d) Shared }
+first_lock d ws = record {
+  brick = record { 0 = if length ws == 0 then 0 else anchor d (length ws) };
+  request = Lock (Dir d) Shared;
+}
 
--- the first request of a lookup that knows the layout: it looks at the holder, if a brick of the volume is one
+-- the first request of a lookup that knows the layout: it looks at the holder, if a brick is one
 abbrev pub first_look : Gfid → List ℕ → List ℕ → Option ℕ → Ask
 first_look d n ws None = first_lock d ws
-first_look d n ws (Some b) = if nat_lt b (length ws) then record { brick = record { 0 = b }; request = OnNames (Look d n) } else first_lock d ws
+first_look d n ws (Some b) =
+    if nat_lt b (length ws)
+    then record { brick = record { 0 = b }; request = OnNames (Look d n) }
+    else first_lock d ws
 
 -- the first request of a call, by a client that knows this layout of its directory or none
 abbrev pub first_ask : Option (List (Option Range)) → List ℕ → Call Gfid → Ask
 first_ask (Some ranges) ws (Lookup d n) = first_look d n ws (holder_in ranges n)
-first_ask None ws (Lookup d n) = record { brick = record { 0 = 0 }; request = OnNames (Dirinfo d) }
+first_ask None ws (Lookup d n) =
+    record { brick = record { 0 = 0 }; request = OnNames (Dirinfo d) }
 first_ask known ws (Create d n) = first_lock d ws
 first_ask known ws (Unlink d n) = first_lock d ws
 
@@ -135,9 +154,10 @@ claimed_by b q = no_claim
 abbrev pub first_claim : Ask → Claim
 first_claim a = claimed_by a.brick.0 a.request
 
--- how many requests a call sends at most, over so many bricks, by a client that knows the layout or does not
+-- how many requests a call sends at most, over so many bricks, by a client that knows the layout or
+-- does not
 abbrev pub most_steps : Bool → ℕ → Call Gfid → ℕ
-most_steps true n (Lookup d m) = n + 5
-most_steps false n (Lookup d m) = 2 * n + 5
-most_steps known n (Create d m) = n + 5
-most_steps known n (Unlink d m) = n + 7
+most_steps true n (Lookup d m) = n + 7
+most_steps false n (Lookup d m) = 2 * n + 7
+most_steps known n (Create d m) = 2 * n + 5
+most_steps known n (Unlink d m) = 2 * n + 7

@@ -1,9 +1,3 @@
-pub mod Layout
-pub mod Found
-pub mod Lookup
-pub mod LookupLaws
-pub mod Create
-pub mod CreateLaws
 pub mod Program
 pub mod ProgramLaws
 pub mod Client

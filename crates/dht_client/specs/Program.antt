@@ -1,11 +1,12 @@
--- Where a program is: where its call is. These do not unfold by themselves, so that no proof above looks into a call.
+-- Where a program is: where its call is. These do not unfold by themselves, so that no proof above
+-- looks into a call.
 use Rattle.std.specs.Prelude.{Option, List}
 use Rattle.dht_types.specs.declared.errors.Errno.{Errno}
 use Rattle.dht_brick.specs.declared.replies.Reply.{Reply}
 use Rattle.dht_xattr.specs.declared.range.Range.{Range}
 use Rattle.dht_section.specs.Stages.{Stage}
-use Rattle.dht_client.specs.Lookup.{lookup_stage, lookup_fault, lookup_layout, lookup_taught}
-use Rattle.dht_client.specs.Create.{create_stage, create_fault, create_layout, create_taught}
+use Rattle.dht_resolve.specs.Lookup.{lookup_stage, lookup_fault, lookup_layout, lookup_taught}
+use Rattle.dht_fileops.specs.Create.{create_stage, create_fault, create_layout, create_taught}
 use Rattle.dht_fileops.specs.Unlink.{unlink_stage, unlink_fault, unlink_layout, unlink_taught}
 use Rattle.dht_client.specs.declared.program.Program.{Program}
 use Rattle.dht_client.specs.declared.program.Program.TheVariants.{LookingUp, Creating, Unlinking}

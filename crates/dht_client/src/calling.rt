@@ -1,27 +1,27 @@
 //! A client: the program of its running call, if there is one, and what it has learned.
 
-ghost use Rattle.std.specs.Prelude.{◌≡◌, ◌≤◌, ◌^◌, ◌<◌, true, false, is_none, is_ok, is_some, None, Some, length, IfOk, OnOk, OnErr};
+ghost use Rattle.std.specs.Prelude.{◌≡◌, ◌≤◌, ◌^◌, ◌<◌, [], true, false, is_none, is_ok, is_some, None, Some, length, IfOk, OnOk, OnErr};
 ghost use Rattle.std.specs.Result.{result_err};
 ghost use Rattle.dht_types.specs.Calls.{directory_of, name_of, refusal_at_start};
 ghost use Rattle.dht_types.specs.Cost.{cost};
 ghost use Rattle.dht_types.specs.declared.identifiers.Gfid.{Gfid as AGfid};
+ghost use Rattle.dht_section.specs.Again.{IsUnanswered};
 ghost use Rattle.dht_section.specs.Begins.{Begins, IsRefusal};
+ghost use Rattle.dht_section.specs.Ended.{found_at};
+ghost use Rattle.dht_section.specs.Faults.{CallNotesFault};
+ghost use Rattle.dht_section.specs.Location.{located};
 ghost use Rattle.dht_section.specs.Scene.{Scene};
 ghost use Rattle.dht_section.specs.Stages.{CallMoves};
-ghost use Rattle.dht_client.specs.Client.{CallLearns, client_directory, client_fault, client_is_busy, client_known, client_layout, client_learned, client_number, client_stage, first_ask, first_claim, first_program, most_steps};
+ghost use Rattle.dht_resolve.specs.Found.{ShowsDir, ShowsFile, dir_at};
+ghost use Rattle.dht_client.specs.Client.{CallLearns, IsLearned, client_cache, client_directory, client_fault, client_is_busy, client_layout, client_learned, client_number, client_stage, first_ask, first_claim, first_program, most_steps};
 ghost use Rattle.dht_client.specs.ClientLaws.{client_goes_on, client_permitted, client_stable};
-ghost use Rattle.dht_section.specs.Again.{IsUnanswered};
-ghost use Rattle.dht_section.specs.Faults.{CallNotesFault};
-ghost use Rattle.dht_section.specs.Ended.{found_at};
-ghost use Rattle.dht_section.specs.Location.{located};
-ghost use Rattle.dht_client.specs.Found.{ShowsFile};
 
-use super::create::{CreateCall, Origin};
-use super::layout::{Known, layout_in, learn};
-use super::lookup::LookupCall;
 use super::program::Program;
 use dht_brick::replies::Reply;
+use dht_fileops::create::{Create, Origin};
 use dht_fileops::unlink::Unlink;
+use dht_resolve::cache::Cache;
+use dht_resolve::lookup::Lookup;
 use dht_section::caller::Caller;
 use dht_section::location::Location;
 use dht_section::machine::{Ask, Finish, Machine, Turn};
@@ -30,22 +30,25 @@ use dht_types::errors::Errno;
 use dht_types::identifiers::{CallNo, ClientNo, Gfid};
 use dht_types::names::Name;
 use dht_types::volumes::Weights;
+use dht_xattr::layout::Layout;
 use std::alloc::{AllocError, Global};
 
-/// A running call: the directory of its name, and its program.
+/// A running call: the directory of its name, and its program. At its end the layout that it has
+/// learned is put in the cache, which may need memory.
 #[derive(Drop)]
 pub struct Running {
+    alloc: Global,
     directory: Gfid,
     program: Program,
 }
 
 /// A client of the volume. It carries out one call at a time, and looks a name up at its holder
-/// alone where it knows the layout of the name's directory.
+/// alone where it has the layout of the name's directory in its cache.
 #[derive(Drop)]
 pub struct Client {
     number: ClientNo,
-    /// The layout that was read last, with its directory.
-    known: Option<Known>,
+    /// The layouts that its calls have read.
+    cache: Cache,
     pending: Option<Running>,
 }
 
@@ -71,20 +74,21 @@ fn locate(weights: &Weights, what: &Call<Gfid>) -> Result<Location, Errno>
     }
 }
 
-impl Client {
-    /// A client that has called nothing yet, and knows no layout.
-    pub fn new(number: ClientNo) -> Client
-        ensures number { client_number result ≡ number }
-        ensures idle { client_is_busy result ≡ false }
-        ensures known { client_known result ≡ None }
-    {
-        Client {
-            number,
-            known: None,
-            pending: None,
-        }
+/// Puts the layout that a call in this directory has learned in the cache. Where there is no memory
+/// for it, the cache stays as it was: the next lookup reads the layout again.
+fn learn(cache: &mut Cache, alloc: Global, directory: Gfid, learned: Option<Layout>)
+    ensures { IsLearned directory learned cache.old cache.new }
+{
+    match learned {
+        Some(layout) => match cache.put(alloc, directory, layout) {
+            Ok(()) => {}
+            Err(_) => {}
+        },
+        None => {}
     }
+}
 
+impl Client {
     /// The program of a call, whose name is at this location. It takes the memory that the call will
     /// need.
     fn program(
@@ -101,10 +105,14 @@ impl Client {
             (λ p. p ≡ first_program self.now location.bricks run call what.now) }
         ensures small { call.0 < 2 ^ 64 }
     {
+        let Location {
+            directory,
+            name,
+            bricks,
+        } = location;
         match what {
-            Call::Lookup(directory, _) => {
-                let known = layout_in(&self.known, *directory);
-                let lookup = LookupCall::new(alloc, location, known)?;
+            Call::Lookup(_, _) => {
+                let lookup = Lookup::begin(alloc, &self.cache, location)?;
                 Ok(Program::LookingUp(lookup))
             }
             Call::Create(_, _) => {
@@ -113,15 +121,10 @@ impl Client {
                     client: self.number,
                     call,
                 };
-                let create = CreateCall::new(alloc, location, origin)?;
+                let create = Create::begin(alloc, bricks, directory, name, origin)?;
                 Ok(Program::Creating(create))
             }
             Call::Unlink(_, _) => {
-                let Location {
-                    directory,
-                    name,
-                    bricks,
-                } = location;
                 let unlink = Unlink::begin(alloc, bricks, directory, name)?;
                 Ok(Program::Unlinking(unlink))
             }
@@ -135,6 +138,19 @@ impl Caller for Client {
     ghost is_busy = { client_is_busy };
 
     ghost stage = { client_stage };
+
+    fn new(client: ClientNo) -> Client
+        ensures number { client_number result ≡ client }
+        ensures idle { client_is_busy result ≡ false }
+        // it knows no layout
+        ensures cache { client_cache result ≡ [] }
+    {
+        Client {
+            number: client,
+            cache: Cache::new(),
+            pending: None,
+        }
+    }
 
     fn is_idle(&self) -> bool {
         self.pending.is_none()
@@ -170,7 +186,7 @@ impl Caller for Client {
         ensures steps { OnOk result ((client_stage self.new).variant
             ≤ most_steps (is_some (client_layout self.old (directory_of what.now)))
             (length weights.now) what.now) }
-        ensures known { client_known self.new ≡ client_known self.old }
+        ensures cache { client_cache self.new ≡ client_cache self.old }
         ensures directory { OnOk result
             (client_directory self.new ≡ Some (directory_of what.now)) }
         ensures learned { OnOk result (client_learned self.new ≡ None) }
@@ -180,7 +196,11 @@ impl Caller for Client {
         match self.program(alloc, location, run, call, what) {
             Ok(program) => {
                 let directory = what.directory();
-                self.pending = Some(Running { directory, program });
+                self.pending = Some(Running {
+                    alloc,
+                    directory,
+                    program,
+                });
                 Ok(())
             }
             Err(_) => Err(Errno::Enomem),
@@ -199,26 +219,39 @@ impl Caller for Client {
         ensures number { client_number self.new ≡ client_number self.old }
         ensures moves { CallMoves client_is_busy client_stage self.old self.new reply at result }
         ensures busy { client_is_busy self.new ≡ is_none result }
-        // a call that has read the range of every brick leaves its client the layout of its directory
+        // a call that has read the range of every brick leaves its client the layout of its
+        // directory, if there is memory for it
         ensures layout { CallLearns self.old reply result self.new }
         // a call answers Enotconn, Eio or Enomem exactly where a brick was down, failed or had no
         // memory for a request of it; the first such brick decides
         ensures fault { CallNotesFault (client_fault self.old) (client_fault self.new)
             (client_stage self.old).asks.request reply result }
-        // a file that the name's holder shows is answered at once
+        // a file or a directory that one look shows, before any lock, is answered at once
         ensures found { (f : AGfid) → ShowsFile (client_stage self.old) reply f
             → result ≡ Some (found_at f at) }
+        ensures folder { (g : AGfid) → ShowsDir (client_stage self.old) reply g
+            → result ≡ Some (dir_at g at) }
         // a request that has no answer is sent again
         ensures again { IsUnanswered (client_stage self.old) reply → self.new ≡ self.old }
     {
         match self.pending.take() {
-            Some(Running { directory, program }) => match program.take(reply, at) {
+            Some(
+                Running {
+                    alloc,
+                    directory,
+                    program,
+                },
+            ) => match program.take(reply, at) {
                 Turn::Go(program) => {
-                    self.pending = Some(Running { directory, program });
+                    self.pending = Some(Running {
+                        alloc,
+                        directory,
+                        program,
+                    });
                     None
                 }
                 Turn::Done(end) => {
-                    learn(&mut self.known, directory, end.layout);
+                    learn(&mut self.cache, alloc, directory, end.layout);
                     Some(end.finish)
                 }
             },

@@ -1,1 +1,2 @@
 pub mod UnlinkSteps
+pub mod CreateSteps

@@ -1,2 +1,5 @@
+pub mod Finish
 pub mod Unlink
 pub mod UnlinkLaws
+pub mod Create
+pub mod CreateLaws

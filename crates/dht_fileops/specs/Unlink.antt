@@ -1,8 +1,7 @@
 -- Where an unlink is between its requests, and how a reply takes it on.
-use Rattle.std.specs.Prelude.{ℕ, suc, ◌+◌, ◌<◌, ◌≡◌, ◌==◌, nat_eq, Bool, true, false, if◌then◌else◌, Option, Some, None, List, [], ◌∷◌, length}
+use Rattle.std.specs.Prelude.{ℕ, suc, ◌+◌, ◌<◌, ◌≡◌, ◌==◌, nat_eq, Bool, false, if◌then◌else◌, Option, Some, None, MatchOption, List, [], ◌∷◌, length}
 use Rattle.dht_types.specs.Gfid.{home, anchor}
 use Rattle.dht_types.specs.History.{is_carried}
-use Rattle.dht_types.specs.declared.calls.Answer.TheVariants.{Done as IsDone, Fault}
 use Rattle.dht_types.specs.declared.calls.Call.TheVariants.{Unlink as Called}
 use Rattle.dht_types.specs.declared.errors.Errno.{Errno}
 use Rattle.dht_types.specs.declared.errors.Errno.TheVariants.{Enoent, Eisdir}
@@ -23,11 +22,12 @@ use Rattle.dht_section.specs.Faults.{brick_fault, part_fault}
 use Rattle.dht_section.specs.Location.{IsHeldAt, entry_at, located, scope_at, section_at}
 use Rattle.dht_section.specs.Looks.{file_in}
 use Rattle.dht_section.specs.Parts.{as_part}
-use Rattle.dht_section.specs.Reap.{first_reap, reap_after, reap_stage}
+use Rattle.dht_section.specs.Reap.{IsOrphan, reap_after, reap_stage}
 use Rattle.dht_section.specs.Replies.{fault_of}
 use Rattle.dht_section.specs.Scene.{Scene, fault_finish}
 use Rattle.dht_section.specs.Section.{all_claimed, held_layout, held_looked, last_lock, section_after, section_fault, section_scope, section_stage, section_taught}
 use Rattle.dht_section.specs.Stages.{Stage}
+use Rattle.dht_section.specs.Sweep.{first_sweep, sweep_after, sweep_stage}
 use Rattle.dht_section.specs.declared.closing.Closing.{Closing}
 use Rattle.dht_section.specs.declared.ended.Ended.{Ended}
 use Rattle.dht_section.specs.declared.location.Location.{Location}
@@ -37,23 +37,18 @@ use Rattle.dht_section.specs.declared.looks.What.TheVariants.{Absent, Dir, File}
 use Rattle.dht_section.specs.declared.machine.Finish.{Finish}
 use Rattle.dht_section.specs.declared.machine.Turn.{Turn}
 use Rattle.dht_section.specs.declared.machine.Turn.TheVariants.{Go, Done}
+use Rattle.dht_section.specs.declared.reap.Orphan.{Orphan}
 use Rattle.dht_section.specs.declared.reap.Reap.{Reap}
+use Rattle.dht_section.specs.declared.reap.Reap.TheVariants.{Sealing}
 use Rattle.dht_section.specs.declared.section.Held.{Held}
 use Rattle.dht_section.specs.declared.section.Opened.{Opened}
 use Rattle.dht_section.specs.declared.section.Opened.TheVariants.{Held as Holding, Gone as IsGone, Stopped as IsStopped}
 use Rattle.dht_section.specs.declared.section.Section.{Section}
+use Rattle.dht_section.specs.declared.sweep.Sweep.{Sweep}
+use Rattle.dht_fileops.specs.Finish.{done_at, refused_at}
 use Rattle.dht_fileops.specs.declared.unlink.Removed.{Removed}
 use Rattle.dht_fileops.specs.declared.unlink.Unlink.{Unlink}
-use Rattle.dht_fileops.specs.declared.unlink.Unlink.TheVariants.{Securing, Unlinking, Reaping, Ending}
-
--- ---- what it answers
-
--- it is done, at the line at which the name was taken away; or it is refused, at this line
-abbrev pub done_at : ℕ → Finish
-done_at at = record { answer = IsDone; at = Some at }
-
-abbrev pub refused_at : Errno → ℕ → Finish
-refused_at e at = record { answer = Fault e; at = Some at }
+use Rattle.dht_fileops.specs.declared.unlink.Unlink.TheVariants.{Securing, Unlinking, Sweeping, Reaping, Ending}
 
 -- ---- what it knows
 
@@ -72,9 +67,18 @@ pub record IsLinked (p : Place) (l : Location) (h : Held) (s : Scene) : Type 0 w
   pub held : IsHeldAt l h s
   pub there : file_in (held_looked h (entry_at l)).sight.what ≡ Some p
 
--- how it ends once the file is reaped
+-- how it ends, if no brick's error ends it
 abbrev pub removed_closing : Removed → Closing
 removed_closing x = closing_of x.held (done_at x.at)
+
+-- the file has no name, where that was its last
+abbrev pub WasLast : Option Orphan → Scene → Type 0
+WasLast orphan s = MatchOption orphan (Unit {0}) (λ x. IsOrphan x s)
+
+-- the name is gone
+pub record Removes (x : Removed) (s : Scene) : Type 0 where
+  pub closing : (closing_stage (removed_closing x)).knows s
+  pub orphan : WasLast x.orphan s
 
 -- the locks that it holds meanwhile
 abbrev pub removed_locks : Removed → List Lock
@@ -82,13 +86,16 @@ removed_locks x = (all_claimed x.held.scope).locks
 
 -- where it is between its requests
 abbrev pub unlink_stage : Unlink → Stage
-unlink_stage (Securing l m) = as_part (section_stage m) 3 (λ s. Secures l m s)
+unlink_stage (Securing l m) = as_part (section_stage m) (l.bricks + 3) (λ s. Secures l m s)
 unlink_stage (Unlinking p l h) = record {
   asks = record { brick = p.brick; request = OnNames (Remove l.directory l.name p.file) };
   claims = all_claimed h.scope;
-  variant = suc (last_lock h.scope) + 3;
+  variant = suc (last_lock h.scope) + (l.bricks + 3);
   knows = λ s. IsLinked p l h s;
 }
+unlink_stage (Sweeping m x) =
+    as_part (sweep_stage (removed_locks x) None m) (suc (last_lock x.held.scope) + 2)
+    (λ s. Removes x s)
 unlink_stage (Reaping m x) =
     as_part (reap_stage (removed_locks x) m) (suc (last_lock x.held.scope))
     (λ s. (closing_stage (removed_closing x)).knows s)
@@ -98,6 +105,7 @@ unlink_stage (Ending c learned) = closing_stage c
 abbrev pub unlink_fault : Unlink → Option Errno
 unlink_fault (Securing l m) = part_fault (section_fault m)
 unlink_fault (Unlinking p l h) = None
+unlink_fault (Sweeping m x) = None
 unlink_fault (Reaping m x) = None
 unlink_fault (Ending c learned) = brick_fault c.finish.answer
 
@@ -105,6 +113,7 @@ unlink_fault (Ending c learned) = brick_fault c.finish.answer
 abbrev pub unlink_layout : Unlink → Option (List (Option Range))
 unlink_layout (Securing l m) = None
 unlink_layout (Unlinking p l h) = Some (held_layout h (entry_at l))
+unlink_layout (Sweeping m x) = Some x.layout
 unlink_layout (Reaping m x) = Some x.layout
 unlink_layout (Ending c learned) = learned
 
@@ -130,7 +139,7 @@ pub record StartsUnlink (bricks : ℕ) (d : Gfid) (x : Stage) : Type 0 where
   pub brick : x.asks.brick.0 ≡ (if bricks == 0 then 0 else anchor d bricks)
   pub request : x.asks.request ≡ ALock (DirKey d) Shared
   pub claims : x.claims ≡ claims_locks (record { brick = x.asks.brick.0; key = DirKey d } ∷ [])
-  pub variant : x.variant ≡ bricks + 7
+  pub variant : x.variant ≡ bricks + bricks + 7
 
 -- ---- how a reply takes it on
 
@@ -162,15 +171,42 @@ abbrev pub is_last : Reply → Bool
 is_last (Carried (Links left)) = nat_eq left 0
 is_last r = false
 
-abbrev pub removed : Location → Held → ℕ → Removed
-removed l h at = record { held = h; layout = held_layout h (entry_at l); at = at }
+-- the file, where its name was the last
+abbrev pub orphan_of : Place → ℕ → Reply → Option Orphan
+orphan_of p bricks r =
+    if is_last r then Some (record { bricks = bricks; file = p.file; brick = p.brick }) else None
+
+abbrev pub removed : Place → Location → Held → Reply → ℕ → Removed
+removed p l h r at = record {
+  held = h;
+  layout = held_layout h (entry_at l);
+  at = at;
+  orphan = orphan_of p l.bricks r;
+}
+
+-- a brick's error that ended the sweep or the reap is the answer
+abbrev pub removed_finish : Removed → Option Errno → Finish
+removed_finish x None = done_at x.at
+removed_finish x (Some e) = fault_finish e
+
+abbrev pub removed_closed : Removed → Option Errno → Unlink
+removed_closed x fault = Ending (closing_of x.held (removed_finish x fault)) (Some x.layout)
+
+-- no linkto of the name is left
+abbrev pub swept_by : Option Orphan → Removed → Unlink
+swept_by None x = removed_closed x None
+swept_by (Some orphan) x = Reaping (Sealing orphan) x
+
+abbrev pub swept : Removed → Unlink
+swept x = swept_by x.orphan x
 
 -- the name was taken away at this line
+abbrev pub sweeping : Option Sweep → Removed → Unlink
+sweeping None x = swept x
+sweeping (Some m) x = Sweeping m x
+
 abbrev pub unlinked : Place → Location → Held → Reply → ℕ → Unlink
-unlinked p l h r at =
-    if is_last r
-    then Reaping (first_reap l.bricks p.file p.brick) (removed l h at)
-    else closed l h (done_at at)
+unlinked p l h r at = sweeping (first_sweep l h) (removed p l h r at)
 
 abbrev pub unlink_unless : Option Errno → Place → Location → Held → Reply → ℕ → Unlink
 unlink_unless (Some e) p l h r at = closed l h (fault_finish e)
@@ -180,17 +216,14 @@ unlink_unless None p l h r at =
 abbrev pub unlink_answered : Place → Location → Held → Reply → ℕ → Unlink
 unlink_answered p l h r at = unlink_unless (fault_of r) p l h r at
 
--- a brick's error that ended the reap is the answer
-abbrev pub reaped_finish : Removed → Option Errno → Finish
-reaped_finish x None = done_at x.at
-reaped_finish x (Some e) = fault_finish e
-
-abbrev pub reaped : Removed → Option Errno → Unlink
-reaped x fault = Ending (closing_of x.held (reaped_finish x fault)) (Some x.layout)
+abbrev pub unlink_swept : Removed → Turn Sweep (Option Errno) → Turn Unlink Ended
+unlink_swept x (Go m) = Go (Sweeping m x)
+unlink_swept x (Done None) = Go (swept x)
+unlink_swept x (Done (Some e)) = Go (removed_closed x (Some e))
 
 abbrev pub unlink_reaped : Removed → Turn Reap (Option Errno) → Turn Unlink Ended
 unlink_reaped x (Go m) = Go (Reaping m x)
-unlink_reaped x (Done fault) = Go (reaped x fault)
+unlink_reaped x (Done fault) = Go (removed_closed x fault)
 
 abbrev pub unlink_closed : Option (List (Option Range)) → Turn Closing Finish → Turn Unlink Ended
 unlink_closed learned (Go c) = Go (Ending c learned)
@@ -199,5 +232,6 @@ unlink_closed learned (Done f) = Done (record { finish = f; layout = learned })
 abbrev pub unlink_after : Unlink → Reply → ℕ → Turn Unlink Ended
 unlink_after (Securing l m) r at = unlink_secured l (section_after m r at)
 unlink_after (Unlinking p l h) r at = Go (unlink_answered p l h r at)
+unlink_after (Sweeping m x) r at = unlink_swept x (sweep_after m r)
 unlink_after (Reaping m x) r at = unlink_reaped x (reap_after m r)
 unlink_after (Ending c learned) r at = unlink_closed learned (closing_after c)

@@ -1,6 +1,6 @@
 -- The laws of an unlink as a machine.
-use Rattle.std.proofs.Common.{◌≡◌, ◌≢◌, ◌<◌, ℕ, Bool, true, false, List, [], ◌∷◌, refl, sym, ◌∙◌, ap, subst, arith}
-use Rattle.std.specs.Prelude.{Option, Some, None, is_some, if◌then◌else◌, suc}
+use Rattle.std.proofs.Common.{◌≡◌, ◌≢◌, ℕ, true, List, [], ◌∷◌, refl, sym, ◌∙◌, ap, subst}
+use Rattle.std.specs.Prelude.{◌+◌, Option, Some, None, is_some, if◌then◌else◌, suc}
 use Rattle.dht_types.specs.Gfid.{root}
 use Rattle.dht_types.specs.History.{Deeds, IsNext}
 use Rattle.dht_types.specs.Tree.{Tree, Node, IsFile, Do, Refuse, says, unlinked}
@@ -24,21 +24,25 @@ use Rattle.dht_section.specs.Location.{entry_at}
 use Rattle.dht_section.specs.PartLaws.{part_permitted, part_stable}
 use Rattle.dht_section.specs.Permits.{Changes}
 use Rattle.dht_section.specs.Reap.{reap_stage}
-use Rattle.dht_section.specs.ReapLaws.{reap_permitted, reap_stable}
+use Rattle.dht_section.specs.ReapLaws.{orphan_stable, reap_permitted, reap_stable}
 use Rattle.dht_section.specs.Rely.{Rely}
 use Rattle.dht_section.specs.Scene.{Scene, Sound, NameStands, Wants}
 use Rattle.dht_section.specs.Section.{found_shape, last_lock, section_stage}
 use Rattle.dht_section.specs.SectionLaws.{section_permitted, section_stable}
-use Rattle.dht_section.specs.Shapes.{Bare, Plain, NameShape, core_at}
+use Rattle.dht_section.specs.Shapes.{Bare, Plain}
 use Rattle.dht_section.specs.Stages.{MaySend, IsStable}
-use Rattle.dht_section.specs.Views.{core, visible}
+use Rattle.dht_section.specs.Sweep.{sweep_stage}
+use Rattle.dht_section.specs.SweepLaws.{sweep_permitted, sweep_stable}
+use Rattle.dht_section.specs.Views.{visible}
 use Rattle.dht_section.specs.declared.location.Location.{Location}
 use Rattle.dht_section.specs.declared.looks.Place.{Place}
+use Rattle.dht_section.specs.declared.reap.Orphan.{Orphan}
 use Rattle.dht_section.specs.declared.section.Held.{Held}
 use Rattle.dht_section.specs.declared.section.Section.{Section}
-use Rattle.dht_fileops.specs.Unlink.{IsLinked, IsUnlink, Secures, removed_closing, removed_locks, unlink_stage}
+use Rattle.dht_fileops.specs.Unlink.{IsLinked, IsUnlink, Removes, Secures, WasLast, removed_closing, removed_locks, unlink_stage}
+use Rattle.dht_fileops.specs.declared.unlink.Removed.{Removed}
 use Rattle.dht_fileops.specs.declared.unlink.Unlink.{Unlink}
-use Rattle.dht_fileops.specs.declared.unlink.Unlink.TheVariants.{Securing, Unlinking, Reaping, Ending}
+use Rattle.dht_fileops.specs.declared.unlink.Unlink.TheVariants.{Securing, Unlinking, Sweeping, Reaping, Ending}
 
 -- ---- the name
 
@@ -97,8 +101,9 @@ removes_name p l h s sound k = record {
 }
 
 pub unlink_permitted : (m : Unlink) → MaySend (unlink_stage m)
-unlink_permitted (Securing l m) s sound h = part_permitted (section_stage m) 3 (λ s. Secures l m s) (section_permitted m) s sound h
+unlink_permitted (Securing l m) s sound h = part_permitted (section_stage m) (l.bricks + 3) (λ s. Secures l m s) (section_permitted m) s sound h
 unlink_permitted (Unlinking p l k) s sound h = record { there = (linked_stands p l k s h.knows).fits; may = (tt, removes_name p l k s sound h.knows) }
+unlink_permitted (Sweeping m x) s sound h = part_permitted (sweep_stage (removed_locks x) None m) (suc (last_lock x.held.scope) + 2) (λ s. Removes x s) (sweep_permitted (removed_locks x) None m) s sound h
 unlink_permitted (Reaping m x) s sound h = part_permitted (reap_stage (removed_locks x) m) (suc (last_lock x.held.scope)) (λ s. (closing_stage (removed_closing x)).knows s) (reap_permitted (removed_locks x) m) s sound h
 unlink_permitted (Ending c learned) s sound h = closing_permitted c s sound h
 
@@ -110,8 +115,16 @@ call_stable l s t h o = o.mine.call ∙ h
 secures_stable : (l : Location) (m : Section) (s t : Scene) → Secures l m s → Rely s t → Secures l m t
 secures_stable l m s t h o = record { call = call_stable l s t h.call o; scope = h.scope }
 
+last_stable : (orphan : Option Orphan) (s t : Scene) → WasLast orphan s → Rely s t → WasLast orphan t
+last_stable None s t h o = tt
+last_stable (Some x) s t h o = orphan_stable x s t h o
+
+removes_stable : (x : Removed) (s t : Scene) → Removes x s → Rely s t → Removes x t
+removes_stable x s t h o = record { closing = closing_stable (removed_closing x) s t h.closing o; orphan = last_stable x.orphan s t h.orphan o }
+
 pub unlink_stable : (m : Unlink) → IsStable (unlink_stage m)
-unlink_stable (Securing l m) s t h o = part_stable (section_stage m) 3 (λ s. Secures l m s) (section_stable m) (secures_stable l m) s t h o
+unlink_stable (Securing l m) s t h o = part_stable (section_stage m) (l.bricks + 3) (λ s. Secures l m s) (section_stable m) (secures_stable l m) s t h o
 unlink_stable (Unlinking p l k) s t h o = record { call = call_stable l s t h.call o; held = held_at_stable l k s t h.held o; there = h.there }
+unlink_stable (Sweeping m x) s t h o = part_stable (sweep_stage (removed_locks x) None m) (suc (last_lock x.held.scope) + 2) (λ s. Removes x s) (sweep_stable (removed_locks x) None m) (removes_stable x) s t h o
 unlink_stable (Reaping m x) s t h o = part_stable (reap_stage (removed_locks x) m) (suc (last_lock x.held.scope)) (λ s. (closing_stage (removed_closing x)).knows s) (reap_stable (removed_locks x) m) (closing_stable (removed_closing x)) s t h o
 unlink_stable (Ending c learned) s t h o = closing_stable c s t h o

@@ -1,13 +1,18 @@
-//! The calls that take files away.
+//! The calls that make files and take them away.
 //!
+//! - `create`: a file is made at a name that stands for nothing.
 //! - `unlink`: a name is taken away, and the file too where that was its last.
 //!
-//! Proved: each request of an unlink is permitted where it is sent, and its answer is what the tree
-//! says at the line that it gives; it learns the layout that its section read, answers the first
-//! error of a brick, and sends a request that has no answer again. Linktos of the name stay where
-//! they are.
+//! Under the locks of the name both drop each linkto of it that their section saw.
+//!
+//! Proved: each request of theirs is permitted where it is sent, and a file is asked for where no
+//! brick has a linkto of its name; an answer is what the tree says at the line that it gives; they
+//! learn the layout that their section read, answer the first error of a brick, and send a request
+//! that has no answer again.
 #![tactic(auto)]
 
+pub mod create;
+pub mod finish;
 pub mod unlink;
 
 pub use dht_section::reap::Reap;

@@ -1,5 +1,6 @@
-//! Unlink: under the locks of its name, a call that takes the name of a file away. Where it was the
-//! file's last name, the file goes too, unless a client has it open.
+//! Unlink: under the locks of its name, a call that takes the name of a file away, and after it the
+//! linktos of the name. Where it was the file's last name, the file goes too, unless a client has it
+//! open.
 
 ghost use Rattle.std.specs.Prelude.{◌≡◌, IfOk};
 ghost use Rattle.dht_section.specs.Again.{IsUnanswered};
@@ -9,9 +10,10 @@ ghost use Rattle.dht_section.specs.Location.{section_at};
 ghost use Rattle.dht_section.specs.Scene.{Scene};
 ghost use Rattle.dht_section.specs.Stages.{Moves};
 ghost use Rattle.dht_section.specs.declared.machine.Turn.TheVariants as turn;
-ghost use Rattle.dht_fileops.specs.Unlink.{unlink_stage, unlink_fault, unlink_layout, unlink_taught, unlink_after, unlink_held, first_unlink, MayUnlink, StartsUnlink, closed, done_at, refused_at, is_last, unlinked, unlink_answered, reaped};
+ghost use Rattle.dht_fileops.specs.Unlink.{unlink_stage, unlink_fault, unlink_layout, unlink_taught, unlink_after, unlink_held, first_unlink, MayUnlink, StartsUnlink, closed, is_last, orphan_of, removed_closed, swept, unlinked, unlink_answered};
 ghost use Rattle.dht_fileops.specs.UnlinkLaws.{unlink_permitted, unlink_stable};
 
+use super::finish::{done_at, refused_at};
 use dht_brick::replies::{Given, Reply};
 use dht_brick::requests::{NameRequest, Request};
 use dht_section::closing::Closing;
@@ -19,23 +21,24 @@ use dht_section::ended::Ended;
 use dht_section::location::Location;
 use dht_section::looks::{Place, What};
 use dht_section::machine::{Ask, Finish, Machine, Turn, fault_finish};
-use dht_section::reap::Reap;
+use dht_section::reap::{Orphan, Reap};
 use dht_section::replies::{fault_of, is_carried};
 use dht_section::section::{Held, Opened, Section};
-use dht_types::calls::Answer;
+use dht_section::sweep::Sweep;
 use dht_types::errors::Errno;
 use dht_types::identifiers::Gfid;
 use dht_types::names::Name;
 use dht_xattr::layout::Layout;
 use std::alloc::{AllocError, Global};
 
-/// A name that was a file's last, and was taken away at this line. Its locks are still held, and
-/// this layout was read.
+/// A name that was taken away at this line. Its locks are still held, and this layout was read.
 #[derive(Drop)]
 pub struct Removed {
     pub held: Held,
     pub layout: Layout,
     pub at: u64,
+    /// The file, where that was its last name.
+    pub orphan: Option<Orphan>,
 }
 
 /// An unlink. Each stage is one request, or those of a part that is a program of its own.
@@ -45,30 +48,12 @@ pub enum Unlink {
     Securing(Location, Section),
     /// Both locks are held, and the name is this file on this brick.
     Unlinking(Place, Location, Held),
-    /// The name is gone, and the file has no other on any brick.
+    /// The name is gone, and linktos of it are left.
+    Sweeping(Sweep, Removed),
+    /// So are its linktos, and the file has no other name on any brick.
     Reaping(Reap, Removed),
     /// The answer is known, and the layout, if it was read.
     Ending(Closing, Option<Layout>),
-}
-
-/// The answer that it is done, at the line at which the name was taken away.
-fn done_at(at: u64) -> Finish
-    ensures { result ≡ done_at at }
-{
-    Finish {
-        answer: Answer::Done,
-        at: Some(at),
-    }
-}
-
-/// The answer that the call is refused, at the line of the last look.
-fn refused_at(errno: Errno, at: u64) -> Finish
-    ensures { result ≡ refused_at errno at }
-{
-    Finish {
-        answer: Answer::Fault(errno),
-        at: Some(at),
-    }
 }
 
 /// An unlink that answers so. Its locks are given back first, and it has learned the layout.
@@ -101,17 +86,58 @@ fn is_last(reply: &Reply) -> bool
     }
 }
 
-/// After the name was taken away, at this line. All links of a file are on its brick, so where none
-/// is left there, it has no name.
+/// The file, where its name was the last. All links of a file are on its brick, so where none is
+/// left there, it has no name.
+fn orphan_of(place: Place, bricks: u16, reply: &Reply) -> Option<Orphan>
+    ensures { result ≡ orphan_of place bricks reply.now }
+{
+    if is_last(reply) {
+        Some(Orphan {
+            bricks,
+            file: place.file,
+            brick: place.brick,
+        })
+    } else {
+        None
+    }
+}
+
+/// After the file was reaped, or was found open, or has another name, or a brick's error ended the
+/// sweep or the reap.
+fn closed(removed: Removed, fault: Option<Errno>) -> Unlink
+    ensures { result ≡ removed_closed removed fault }
+{
+    let finish = match fault {
+        Some(errno) => fault_finish(errno),
+        None => done_at(removed.at),
+    };
+    Unlink::Ending(removed.held.close(finish), Some(removed.layout))
+}
+
+/// After the linktos of the name were dropped, too.
+fn swept(removed: Removed) -> Unlink
+    ensures { result ≡ swept removed }
+{
+    match removed.orphan {
+        Some(orphan) => Unlink::Reaping(Reap::Sealing(orphan), removed),
+        None => closed(removed, None),
+    }
+}
+
+/// After the name was taken away, at this line.
 fn unlinked(place: Place, location: Location, held: Held, reply: &Reply, at: u64) -> Unlink
     ensures { result ≡ unlinked place location held reply.now at }
 {
-    if is_last(reply) {
-        let layout = held.layout(location.directory, &location.name);
-        let reap = Reap::begin(location.bricks, place.file, place.brick);
-        Unlink::Reaping(reap, Removed { held, layout, at })
-    } else {
-        close(location, held, done_at(at))
+    let sweep = Sweep::begin(location, &held);
+    let removed = Removed {
+        layout: held.layout(location.directory, &location.name),
+        held,
+        at,
+        orphan: orphan_of(place, location.bricks, reply),
+    };
+    match sweep {
+        Some(sweep) => Unlink::Sweeping(sweep, removed),
+        None => swept(removed),
     }
 }
 
@@ -129,17 +155,6 @@ fn unlink_answered(place: Place, location: Location, held: Held, reply: &Reply, 
             }
         }
     }
-}
-
-/// After the file was reaped, or was found open, or a brick's error ended the reap.
-fn reaped(removed: Removed, fault: Option<Errno>) -> Unlink
-    ensures { result ≡ reaped removed fault }
-{
-    let finish = match fault {
-        Some(errno) => fault_finish(errno),
-        None => done_at(removed.at),
-    };
-    Unlink::Ending(removed.held.close(finish), Some(removed.layout))
 }
 
 impl Unlink {
@@ -180,9 +195,14 @@ impl Unlink {
             Unlink::Unlinking(place, location, held) => {
                 Turn::Go(unlink_answered(place, location, held, &reply, at))
             }
+            Unlink::Sweeping(sweep, removed) => match sweep.take(reply, at) {
+                Turn::Go(sweep) => Turn::Go(Unlink::Sweeping(sweep, removed)),
+                Turn::Done(None) => Turn::Go(swept(removed)),
+                Turn::Done(Some(errno)) => Turn::Go(closed(removed, Some(errno))),
+            },
             Unlink::Reaping(reap, removed) => match reap.take(reply, at) {
                 Turn::Go(reap) => Turn::Go(Unlink::Reaping(reap, removed)),
-                Turn::Done(fault) => Turn::Go(reaped(removed, fault)),
+                Turn::Done(fault) => Turn::Go(closed(removed, fault)),
             },
             Unlink::Ending(closing, learned) => match closing.take(reply, at) {
                 Turn::Go(closing) => Turn::Go(Unlink::Ending(closing, learned)),
@@ -213,6 +233,7 @@ impl Machine for Unlink {
                     place.file,
                 )),
             },
+            Unlink::Sweeping(sweep, _) => sweep.next(),
             Unlink::Reaping(reap, _) => reap.next(),
             Unlink::Ending(closing, _) => closing.next(),
         }

@@ -1,6 +1,7 @@
 -- The death of a client is a transition.
 use Rattle.std.proofs.Common.{◌≡◌, ◌≢◌, ◌<◌, ◌≤◌, ℕ, Bool, true, false, refl, sym, ap, ◌∙◌, subst, inl, inr, arith}
 use Rattle.std.specs.Prelude.{Option, Some, None, nat_eq, if◌then◌else◌}
+use Rattle.std.specs.FinMap.{contains_key}
 use Rattle.std.proofs.lemmas.Bool.{cases_lt}
 use Rattle.dht_types.proofs.PutLaws.{put_same, put_other, exact_nat}
 use Rattle.dht_types.specs.Put.{put}
@@ -22,7 +23,7 @@ use Rattle.dht_invariant.specs.Transition.{Transition, FreesClient}
 use Rattle.dht_invariant.proofs.Basics.{nat_cases, not_true}
 use Rattle.dht_invariant.proofs.LineKeeps.{places_less, line_keeps}
 use Rattle.dht_invariant.proofs.QuietKeeps.{SameStores, at_most, used_same, transition_same}
-use Rattle.dht_invariant.proofs.RegistrationLaws.{registrations_less}
+use Rattle.dht_invariant.proofs.RegistrationLaws.{registrations_less, unregistered_less}
 
 module _ (c : ClientNo) (d e : Disk) (s : History) (p : ℕ → Claim) (k : Invariant d s p) (now : Early d s) (h : FreesClient c.0 d e) where
   -- what holds of a freed brick, and of one that did not change
@@ -37,6 +38,7 @@ module _ (c : ClientNo) (d e : Disk) (s : History) (p : ℕ → Claim) (k : Inva
     count = h.count;
     stores = λ b. brick_is (λ x. x.store ≡ (d.brick b).store) b refl refl;
     opened = λ b f. brick_is (λ x. registrations x.opens f ≤ registrations (d.brick b).opens f) b (registrations_less c.0 (d.brick b).opens f) (at_most _ _ refl);
+    unopened = λ b r h. brick_is (λ x. contains_key x.opens.registered r ≡ false) b (unregistered_less c.0 (d.brick b).opens r h) h;
     seals = λ b f. brick_is (λ x. is_sealed x.opens f ≡ is_sealed (d.brick b).opens f) b refl refl;
   }
 
@@ -69,7 +71,7 @@ module _ (c : ClientNo) (d e : Disk) (s : History) (p : ℕ → Claim) (k : Inva
   ]
 
   pub death_transition : Transition c.0 d s p e (with_line s (Died c)) (put nat_eq p c.0 no_claim)
-  death_transition = transition_same d e stores s (with_line s (Died c)) (line_keeps s (Died c) refl refl (at_most _ _ refl))
+  death_transition = transition_same d e stores s (with_line s (Died c)) (line_keeps s (Died c) refl refl refl (at_most _ _ refl))
       c.0 p (put nat_eq p c.0 no_claim) h.elsewhere (places_less p c.0 no_claim (λ f b. omega arith)) locks others_hold
       (λ w ne. put_other nat_eq exact_nat p c.0 no_claim w ne) (λ w ne. put_other nat_eq exact_nat s.pending c.0 None w ne) fresh k now
 

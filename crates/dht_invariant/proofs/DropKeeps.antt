@@ -25,13 +25,13 @@ use Rattle.dht_brick.specs.declared.requests.FileRequest.TheVariants.{Drop}
 use Rattle.dht_brick.specs.declared.requests.Request.TheVariants.{OnFile}
 use Rattle.dht_section.specs.declared.machine.Ask.{Ask}
 use Rattle.dht_section.specs.Disk.{slot_at, file_at, dir_at}
-use Rattle.dht_section.specs.Invariant.{most_hops}
+use Rattle.dht_section.specs.Invariant.{Used, most_hops}
 use Rattle.dht_section.specs.Moves.{Guarantee, outcome_of, step_of, tree_by}
 use Rattle.dht_section.specs.Rely.{IsFileUsed, IsNameless, BySeal}
 use Rattle.dht_section.specs.Scene.{Scene, Sound}
 use Rattle.dht_section.specs.Shapes.{Gone, body, record_at}
 use Rattle.dht_section.specs.Views.{links_to, view_of}
-use Rattle.dht_invariant.specs.Laws.{RemovalLeaves}
+use Rattle.dht_invariant.specs.Laws.{Preserves}
 use Rattle.dht_invariant.specs.Locality.{NoHold, ALock, ARegistration, ASeal, NamesFile, ByFileRecord, ByFileName, ByRegistration, BySeal as BySealed, NamesLock, FileClause}
 use Rattle.dht_invariant.specs.Touches.{OwnsFile}
 use Rattle.dht_invariant.proofs.Basics.{nat_cases, gfid_cases, other_some, true_false, here_off}
@@ -158,7 +158,10 @@ module _ (s t : Scene) (b : BrickNo) (f : Gfid) (r : Reply) (m : Guarantee s (re
     | inr ne ↦ file_used_kept s.disk t.disk s.history.tree t.history.tree g m.disk.count (ap (λ (u : Tree). u.bytes g) tree) (files_stay g ne) (λ z. sealed_same g ∙ z) h
   ]
 
-  pub drop_leaves : RemovalLeaves s t
+  used_before : (g : Gfid) → Used t.disk t.history.tree g → Used s.disk s.history.tree g
+  used_before g = used_no_more s.disk t.disk stores s.history.tree t.history.tree g (ap (λ (u : Tree). u.bytes g) tree) (ap (λ (u : Tree). u.dirs g) tree) (sealed_same g)
+
+  pub drop_leaves : Preserves s t
   drop_leaves = record {
     things = things_no_more s t ask r m stores
         (λ x. inl (λ k. let z : None ≡ Some x = k in cc))
@@ -167,8 +170,8 @@ module _ (s t : Scene) (b : BrickNo) (f : Gfid) (r : Reply) (m : Guarantee s (re
           | inr ne ↦ inl (other_file g ne)
         ])
         (no_dir_named (reach_of s ask) b.0 s.disk t.disk refl refl refl) no_lock sound.kept.things;
-    early = early_no_more s.disk t.disk stores s.history t.history m.weights sound.early;
-    used = λ g. used_no_more s.disk t.disk stores s.history.tree t.history.tree g (ap (λ (u : Tree). u.bytes g) tree) (ap (λ (u : Tree). u.dirs g) tree) (sealed_same g);
+    early = early_no_more s.disk t.disk stores s.history t.history m.run (λ i. ap (λ (o : Opens). o.registered) (opens_stay i)) used_before sound.early;
+    used = used_before;
     touches = taken_touches s t.disk t.history.tree (record {
       stores = stores;
       locks = λ c i key ne. others_hold s t ask r m i key c ne;

@@ -20,7 +20,10 @@ pub mod DeathKeeps
 pub mod Composes
 pub mod TransitionLaws
 pub mod StandsLaws
+pub mod AloneLaws
+pub mod WiderLaws
 pub mod Newborn
+pub mod RemountKeeps
 pub mod LinktoKeeps
 pub mod RowLocality
 pub mod ViewLocality

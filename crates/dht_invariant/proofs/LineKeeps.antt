@@ -2,7 +2,7 @@
 use Rattle.std.proofs.Common.{◌≡◌, ◌<◌, ◌≤◌, ◌^◌, ℕ, refl, sym, ap, ◌∙◌, subst, inl, inr, arith}
 use Rattle.std.specs.Prelude.{nat_eq}
 use Rattle.dht_types.proofs.PutLaws.{put_elim, put_same, put_other, exact_nat}
-use Rattle.dht_types.proofs.HistoryLaws.{past_with_line, point_with_line, run_with_line}
+use Rattle.dht_types.proofs.HistoryLaws.{past_with_line, point_with_line}
 use Rattle.dht_types.specs.Put.{put}
 use Rattle.dht_types.specs.Tree.{Tree}
 use Rattle.dht_types.specs.History.{History, IsOwn, tells, with_line}
@@ -43,11 +43,11 @@ claims_are_transitions c d s p new k now may =
     }
 
 -- one more line, of which this is known, keeps the history
-pub line_keeps : (s : History) (x : Line) → (tells s x).tree ≡ s.tree → (tells s x).weights ≡ s.weights → s.calls ≤ (tells s x).calls → SameHistory s (with_line s x)
-line_keeps s x tree weights calls = record {
+pub line_keeps : (s : History) (x : Line) → (tells s x).tree ≡ s.tree → (tells s x).weights ≡ s.weights → (tells s x).run ≡ s.run → s.calls ≤ (tells s x).calls → SameHistory s (with_line s x)
+line_keeps s x tree weights run calls = record {
   tree = tree;
   weights = weights;
-  run = run_with_line s x;
+  run = run;
   calls = calls;
   later = omega arith;
   past = past_with_line s x;
@@ -56,13 +56,13 @@ line_keeps s x tree weights calls = record {
 
 pub lines_are_transitions : LinesAreTransitions
 lines_are_transitions c d s p x k now h =
-    transition_same d d (same_stores d) s (with_line s x) (line_keeps s x h.tree h.weights h.calls)
+    transition_same d d (same_stores d) s (with_line s x) (line_keeps s x h.tree h.weights h.run h.calls)
     c p p (λ b l. refl) (λ f b w. at_most _ _ refl) k.things.locks (λ b key w ne. refl) (λ w ne. refl) h.pending fresh k now
   where
     fresh : NothingUsed d (with_line s x)
     fresh w r g small e none own u =
         let used : Used d s.tree g = subst (λ (y : Tree). Used d y g) h.tree u in
-        let owned : IsOwn s.run w r.number g = subst (λ (i : ℕ). IsOwn i w r.number g) (run_with_line s x) own in
+        let owned : IsOwn s.run w r.number g = subst (λ (i : ℕ). IsOwn i w r.number g) h.run own in
         elim (nat_cases w.0 c) [
           | inl q ↦ elim (h.own r (ap (tells s x).pending (sym q) ∙ e) none) [
             | inl m ↦ k.fresh w m.before g (subst (λ (i : CallNo). i.0 < 2 ^ 64) (sym m.number) small) (ap s.pending q ∙ m.was_it) m.fresh

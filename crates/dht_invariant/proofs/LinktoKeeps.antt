@@ -1,7 +1,7 @@
 -- A linkto that comes or goes is in no part of the invariant.
 use Rattle.std.proofs.Common.{◌≡◌, ◌≢◌, ◌<◌, ℕ, Bool, true, false, List, refl, sym, ap, ◌∙◌, subst, inl, inr, arith}
 use Rattle.std.specs.Prelude.{Option, Some, None, is_some, is_none, unwrap_or, if◌then◌else◌}
-use Rattle.std.specs.FinMap.{insert, remove}
+use Rattle.std.specs.FinMap.{insert, remove, contains_key}
 use Rattle.dht_types.specs.Gfid.{Entry, root}
 use Rattle.dht_types.specs.Tree.{Tree}
 use Rattle.dht_types.specs.declared.calls.TreeStep.{TreeStep}
@@ -11,7 +11,7 @@ use Rattle.dht_types.specs.declared.stored.DirRecord.{DirRecord}
 use Rattle.dht_types.specs.declared.stored.Main.{Main}
 use Rattle.dht_types.specs.declared.stored.Main.TheVariants.{Dir, File, Linkto}
 use Rattle.dht_types.specs.declared.stored.Slot.{Slot}
-use Rattle.dht_brick.specs.Contents.{Contents, Store, Slots, Locks, bare, slot, slot_in, dir, file}
+use Rattle.dht_brick.specs.Contents.{Contents, Store, Slots, Opens, Locks, bare, slot, slot_in, dir, file}
 use Rattle.dht_brick.specs.Locality.{ChangesOnly, IsLocal, at_slot}
 use Rattle.dht_brick.specs.NameRows.{name_row, on_slot, when}
 use Rattle.dht_brick.specs.Named.{name_named}
@@ -27,8 +27,9 @@ use Rattle.dht_brick.specs.declared.requests.NameRequest.{NameRequest}
 use Rattle.dht_brick.specs.declared.requests.NameRequest.TheVariants.{MakeLinkto, DropLinkto}
 use Rattle.dht_brick.specs.declared.requests.Request.TheVariants.{OnNames}
 use Rattle.dht_section.specs.Claims.{Claim, places_of}
-use Rattle.dht_section.specs.Disk.{slot_at, file_at, dir_at, holders}
-use Rattle.dht_section.specs.Invariant.{Things, most_hops}
+use Rattle.dht_section.specs.Disk.{file_in, slot_at, file_at, dir_at, holders}
+use Rattle.dht_section.specs.Early.{Early}
+use Rattle.dht_section.specs.Invariant.{Things, Used, most_hops}
 use Rattle.dht_section.specs.Moves.{Guarantee, outcome_of, step_of, tree_by}
 use Rattle.dht_section.specs.Permits.{MayName, Changes}
 use Rattle.dht_section.specs.Scene.{Scene, Sound, NameStands, Guards}
@@ -38,7 +39,9 @@ use Rattle.dht_invariant.specs.Laws.{IsOfLinkto, LinktoLeaves, LinktosKeep}
 use Rattle.dht_invariant.specs.Makes.{Framed}
 use Rattle.dht_invariant.specs.Touches.{Touches}
 use Rattle.dht_invariant.proofs.Basics.{nat_cases, entry_cases, other_some, both_true}
-use Rattle.dht_invariant.proofs.Frames.{brick_by, brick_is, kept_by, links_core, plain_core, dir_core, name_kept, file_kept, dir_kept, lock_kept, view_same, dir_view_same}
+use Rattle.dht_invariant.proofs.EarlyLaws.{HasNone, file_core, plain_as, early_on}
+use Rattle.dht_invariant.proofs.Frames.{brick_by, brick_is, kept_by, links_core, plain_core, dir_core, name_kept, file_kept, dir_kept, lock_kept, view_same, dir_view_same, used_kept}
+use Rattle.dht_invariant.proofs.NoMoreLaws.{sealed_kept}
 use Rattle.dht_invariant.proofs.ServedLaws.{within_keeps, served_is}
 use Rattle.dht_invariant.proofs.TouchLaws.{one_slot_touches}
 
@@ -73,6 +76,11 @@ linkto_none (Some (Linkto v)) e = refl
 abbrev Kept : Store → Entry → Store → Type 0
 Kept s x n = core (slot n x) ≡ core (slot s x)
 
+-- the linkto is made
+abbrev IsMade : NameRequest → Type 0
+IsMade (MakeLinkto d n value) = Unit {0}
+IsMade q = ⊥
+
 -- a slot that is put in the place of one of the same core
 put_core : (s : Store) (x : Entry) (p : Slot) → core p ≡ core (slot s x) → Kept s x (with_slot s x p)
 put_core s x p e = ap core (slot_put s.slots x p) ∙ e
@@ -91,6 +99,20 @@ row_core : (bricks : List (List ℕ)) (q : NameRequest) (s : Store) → IsOfLink
 row_core bricks (MakeLinkto d n value) s h = made_core d n value s (dir s d) (is_vacant (slot s (d, n)).main) refl
 row_core bricks (DropLinkto d n) s h = dropped_core d n s (dir s d) (is_linkto (slot s (d, n)).main) refl
 row_core bricks q s h = absurd h
+
+-- a linkto that is dropped leaves none, and one that is made is made where it may be
+abbrev StaysNone : Store → Entry → Store → Type 0
+StaysNone s x n = HasNone (slot s x) → HasNone (slot n x)
+
+dropped_none : (d : Gfid) (n : List ℕ) (s : Store) (o : Option DirRecord) (v : Bool) → StaysNone s (d, n) (left_by (in_dir o (λ r. on_slot (DropLinkto d n) s (d, n) (when v (without_main (slot s (d, n)))))) s)
+dropped_none d n s None v h = h
+dropped_none d n s (Some r) false h = h
+dropped_none d n s (Some r) true h = subst HasNone (sym (slot_put s.slots (d, n) (without_main (slot s (d, n))))) refl
+
+row_none : (bricks : List (List ℕ)) (q : NameRequest) (s : Store) → IsOfLinkto q → (IsMade q → ⊥) → StaysNone s (name_named q) (left_by (name_row bricks q s) s)
+row_none bricks (MakeLinkto d n value) s h dropped = absurd (dropped tt)
+row_none bricks (DropLinkto d n) s h dropped = dropped_none d n s (dir s d) (is_linkto (slot s (d, n)).main)
+row_none bricks q s h dropped = absurd h
 
 -- where the directory is not there, nothing is done
 closed : (o : Option DirRecord) (outcome : DirRecord → Outcome Store) (s : Store) → o ≡ None → left_by (in_dir o outcome) s ≡ s
@@ -114,17 +136,19 @@ row_only bricks (DropLinkto d n) s h = local_only (name_row bricks (DropLinkto d
 row_only bricks q s h = absurd h
 
 -- what one brick has after it
-record Left (old : Contents) (x : Entry) (c : Contents) : Type 0 where
+record Left (old : Contents) (q : NameRequest) (x : Entry) (c : Contents) : Type 0 where
   only : ChangesOnly (at_slot x) old.store c.store
   same : core (slot c.store x) ≡ core (slot old.store x)
+  none : (IsMade q → ⊥) → StaysNone old.store x c.store
   shut : dir old.store x.0 ≡ None → slot c.store x ≡ slot old.store x
   opens : c.opens ≡ old.opens
   locks : c.locks ≡ old.locks
 
-nothing_left : (old : Contents) (x : Entry) → Left old x old
-nothing_left old x = record {
+nothing_left : (old : Contents) (q : NameRequest) (x : Entry) → Left old q x old
+nothing_left old q x = record {
   only = record { slots = λ e ne out. refl; dirs = λ g ne. refl; files = λ f ne. refl };
   same = refl;
+  none = λ made h. h;
   shut = λ e. refl;
   opens = refl;
   locks = refl;
@@ -135,12 +159,13 @@ store_left (Do given new) c = refl
 store_left (Refuse why) c = refl
 store_left (Await holder) c = refl
 
-row_left : (bricks : List (List ℕ)) (q : NameRequest) (c : Contents) → IsOfLinkto q → Left c (name_named q) (left_by (within (with_store c) (name_row bricks q c.store)) c)
+row_left : (bricks : List (List ℕ)) (q : NameRequest) (c : Contents) → IsOfLinkto q → Left c q (name_named q) (left_by (within (with_store c) (name_row bricks q c.store)) c)
 row_left bricks q c h =
     let e : (left_by (within (with_store c) (name_row bricks q c.store)) c).store ≡ left_by (name_row bricks q c.store) c.store = store_left (name_row bricks q c.store) c in
     record {
       only = subst (ChangesOnly (at_slot (name_named q)) c.store) (sym e) (row_only bricks q c.store h);
       same = ap (λ (s : Store). core (slot s (name_named q))) e ∙ row_core bricks q c.store h;
+      none = λ made. subst (StaysNone c.store (name_named q)) (sym e) (row_none bricks q c.store h made);
       shut = λ none. ap (λ (s : Store). slot s (name_named q)) (e ∙ row_closed bricks q c.store h none);
       opens = within_keeps (λ (x : Contents). x.opens) (with_store c) (name_row bricks q c.store) c (λ a. refl);
       locks = within_keeps (λ (x : Contents). x.locks) (with_store c) (name_row bricks q c.store) c (λ a. refl);
@@ -152,8 +177,8 @@ module _ (s t : Scene) (b : BrickNo) (q : NameRequest) (r : Reply) (h : IsOfLink
   abbrev name : Entry
   name = name_named q
 
-  left : Left (s.disk.brick b.0) (name_named q) m.new
-  left = served_is (Left (s.disk.brick b.0) (name_named q)) (outcome_of s (record { brick = b; request = OnNames q })) (s.disk.brick b.0) m.real m.new (row_left _ q (s.disk.brick b.0) h) (nothing_left (s.disk.brick b.0) (name_named q)) m.served
+  left : Left (s.disk.brick b.0) q (name_named q) m.new
+  left = served_is (Left (s.disk.brick b.0) q (name_named q)) (outcome_of s (record { brick = b; request = OnNames q })) (s.disk.brick b.0) m.real m.new (row_left _ q (s.disk.brick b.0) h) (nothing_left (s.disk.brick b.0) q (name_named q)) m.served
 
   stays : {X : Type 0} (g : Contents → X) → g m.new ≡ g (s.disk.brick b.0) → (i : ℕ) → g (t.disk.brick i) ≡ g (s.disk.brick i)
   stays g same i = kept_by g s.disk t.disk b.0 m.new m.disk same i
@@ -277,12 +302,51 @@ module _ (s t : Scene) (b : BrickNo) (q : NameRequest) (r : Reply) (h : IsOfLink
     );
   })
 
+  used_before : (g : Gfid) → Used t.disk t.history.tree g → Used s.disk s.history.tree g
+  used_before g = used_kept t.disk s.disk t.history.tree s.history.tree g (sym m.disk.count)
+      (λ k none. k (ap (λ (u : Tree). u.bytes g) tree ∙ none))
+      (λ k. ap (λ (u : Tree). u.dirs g) (sym tree) ∙ k)
+      (λ i k. ap is_some (sym (files_stay i g)) ∙ k)
+      (λ i k. ap is_some (sym (dirs_stay i g)) ∙ k)
+      (sym (sealed_kept s.disk t.disk g m.disk.count framed.opens))
+
+  -- in the first run no linkto is made
+  dropped : s.history.run ≡ 1 → IsMade q → ⊥
+  dropped first made = by q may made
+    where
+      by : (p : NameRequest) → Changes s b.0 p → IsMade p → ⊥
+      by (MakeLinkto d n value) c k = c.also.1 first
+      by p c k = k
+
+  none_linked : (x : Entry) (i : ℕ) → s.history.run ≡ 1 → i < s.disk.count → HasNone (slot_at t.disk i x)
+  none_linked x i first l = elim (entry_cases x name) [
+    | inl e ↦ elim (nat_cases i b.0) [
+      | inl z ↦ subst HasNone (sym (ap (λ (j : ℕ). slot_at t.disk j x) z ∙ (ap (slot_at t.disk b.0) e ∙ ap (λ (c : Contents). slot c.store name) (brick_is s.disk t.disk b.0 m.new m.disk))))
+          (left.none (dropped first) (sound.early.unlinked name b.0 first there))
+      | inr ne ↦ subst HasNone (sym (ap (λ (c : Contents). slot c.store x) (framed.off i ne))) (sound.early.unlinked x i first l)
+    ]
+    | inr ne ↦ subst HasNone (sym (slots_stay i x ne)) (sound.early.unlinked x i first l)
+  ]
+
+  early : Early t.disk t.history
+  early = early_on s.disk t.disk s.history t.history
+      (record { count = m.disk.count; run = m.run; dirs = dirs_stay; unopened = λ i o k. ap (λ (x : Opens). contains_key x.registered o) (framed.opens i) ∙ k }) sound.early
+      (λ x i l. plain_as (slot_at s.disk i x) (slot_at t.disk i x) (cores_stay i x) (sound.early.plain x i l))
+      none_linked
+      (λ f i o l e. sound.early.unmoved f i o l (sym (files_stay i f) ∙ e))
+      (λ x i f l e. inl (file_core (slot_at s.disk i x) ∙ (ap file_in (sym (cores_stay i x)) ∙ (sym (file_core (slot_at t.disk i x)) ∙ e))))
+      (λ g u. inl (used_before g u))
+
   pub linkto_leaves : LinktoLeaves s t
   linkto_leaves = record {
-    things = subst (λ (x : ℕ → Claim). Things t.disk t.history.tree (most_hops t.history) x) (sym m.claims) (subst (λ (u : Tree). Things t.disk u (most_hops t.history) s.claims) (sym tree) things_by);
+    kept = record {
+      things = subst (λ (x : ℕ → Claim). Things t.disk t.history.tree (most_hops t.history) x) (sym m.claims) (subst (λ (u : Tree). Things t.disk u (most_hops t.history) s.claims) (sym tree) things_by);
+      early = early;
+      used = used_before;
+      touches = touches;
+    };
     tree = tree;
     shapes = shapes;
-    touches = touches;
   }
 
 may_change : (s : Scene) (b : ℕ) (q : NameRequest) → IsOfLinkto q → MayName s b q → Changes s b q

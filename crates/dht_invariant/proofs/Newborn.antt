@@ -4,10 +4,10 @@ use Rattle.std.specs.Prelude.{zero, suc, Option, Some, None, IfSome, unwrap_or, 
 use Rattle.std.proofs.Math.Seq.{take-suc}
 use Rattle.std.proofs.lemmas.List.{take_all}
 use Rattle.std.proofs.lemmas.Bool.{cases_lt}
-use Rattle.std.specs.FinMap.{empty, entries, get-empty, len-entries, len-empty}
+use Rattle.std.specs.FinMap.{contains_key, empty, entries, get-empty, len-entries, len-empty}
 use Rattle.dht_types.proofs.PutLaws.{exact_gfid}
 use Rattle.dht_types.proofs.HistoryLaws.{point_with_line}
-use Rattle.dht_types.specs.Gfid.{Entry, root, home, same_gfid, anchor}
+use Rattle.dht_types.specs.Gfid.{Entry, root, home, same_gfid, anchor, run_of}
 use Rattle.dht_types.specs.Tree.{first_tree}
 use Rattle.dht_types.specs.History.{with_line, start, IsOwn}
 use Rattle.dht_types.specs.declared.identifiers.Gfid.{Gfid}
@@ -20,7 +20,10 @@ use Rattle.dht_types.specs.declared.stored.Slot.{Slot}
 use Rattle.dht_types.specs.declared.lines.Line.TheVariants.{Volume}
 use Rattle.dht_xattr.proofs.RangeLaws.{decoded_encoded}
 use Rattle.dht_xattr.specs.Plan.{IsPlanned, planned, planned_value, value_of}
-use Rattle.dht_xattr.proofs.PlanLaws.{planned_length, planned_valid}
+use Rattle.dht_xattr.proofs.PlanLaws.{planned_length, planned_valid, planned_holder}
+use Rattle.dht_xattr.specs.Layout.{holder}
+use Rattle.dht_hash.specs.DaviesMeyer.{dm}
+use Rattle.dht_hash.proofs.DaviesMeyerLaws.{dm_below}
 use Rattle.dht_xattr.specs.declared.range.Range.{Range}
 use Rattle.dht_brick.specs.Contents.{Contents, newborn, slot, dir, file, bare, no_opens, gfid_cmp, entry_cmp, registration_cmp}
 use Rattle.dht_brick.specs.declared.opens.Registration.{Registration}
@@ -28,30 +31,34 @@ use Rattle.dht_brick.specs.OpenRows.{registrations, is_sealed}
 use Rattle.dht_brick.specs.Parts.{is_copy, is_dir}
 use Rattle.dht_section.specs.Claims.{places_of}
 use Rattle.dht_section.specs.Disk.{Disk, file_in, slot_at, name_at, file_at, dir_at, range_of_value, range_of, range_at, ranges_below, layout_of, holders}
-use Rattle.dht_section.specs.Dirs.{DirInvariant, PlacedAt}
 use Rattle.dht_section.specs.Early.{Early}
 use Rattle.dht_section.specs.Files.{FileInvariant}
 use Rattle.dht_section.specs.Invariant.{Invariant, Things, Used, ByBytes, ByDir, ByRecord, ByCopy, BySeal}
 use Rattle.dht_section.specs.Locks.{LockInvariant}
 use Rattle.dht_section.specs.Shapes.{Bare, Gone, body}
-use Rattle.dht_section.specs.Views.{core, links_to, view_of, dir_view}
+use Rattle.dht_section.specs.Views.{core, links_to, view_of}
 use Rattle.dht_types.specs.Volume.{HasWeight}
 use Rattle.dht_brick.proofs.TableLemmas.{gfid_total, gfid_exact}
 use Rattle.dht_invariant.specs.Laws.{no_claims}
 use Rattle.dht_invariant.specs.New.{AreNew}
+use Rattle.dht_invariant.proofs.AloneLaws.{RootAlone, dir_alone}
+use Rattle.dht_invariant.proofs.EarlyLaws.{HasNone}
 use Rattle.dht_invariant.proofs.Basics.{gfid_cases, none_some, some_same, not_true, true_false, anchor_within}
 use Rattle.dht_invariant.proofs.ContentsLaws.{get_at, get_off}
 
-is_not : (g : Gfid) → g ≢ root → same_gfid g root ≡ false
+pub is_not : (g : Gfid) → g ≢ root → same_gfid g root ≡ false
 is_not g ne = not_true (same_gfid g root) (λ h. ne ((exact_gfid g root).0 h))
 
 -- the record of the root on a new brick
-abbrev root_record : Option (List ℕ) → DirRecord
+abbrev pub root_record : Option (List ℕ) → DirRecord
 root_record v = record { place = None; depth = 0; value = v }
 
-root_only : (v : Option (List ℕ)) (g : Gfid) → is_some (dir (newborn v).store g) ≡ same_gfid g root
+pub root_first : (v : Option (List ℕ)) → dir (newborn v).store root ≡ Some (root_record v)
+root_first v = get_at gfid_total empty root (root_record v)
+
+pub root_only : (v : Option (List ℕ)) (g : Gfid) → is_some (dir (newborn v).store g) ≡ same_gfid g root
 root_only v g = elim (gfid_cases g root) [
-  | inl e ↦ ap is_some (ap (dir (newborn v).store) e ∙ get_at gfid_total empty root (root_record v)) ∙ sym ((exact_gfid g root).1 e)
+  | inl e ↦ ap is_some (ap (dir (newborn v).store) e ∙ root_first v) ∙ sym ((exact_gfid g root).1 e)
   | inr ne ↦ ap is_some (get_off gfid_total gfid_exact empty root (root_record v) g ne ∙ get-empty gfid_cmp g) ∙ sym (is_not g ne)
 ]
 
@@ -74,7 +81,7 @@ no_length [] e = refl
 no_length (x ∷ xs) e = absurd (omega arith)
 
 -- nobody has opened anything on a new brick
-none_open : (f : Gfid) → registrations no_opens f ≡ 0
+pub none_open : (f : Gfid) → registrations no_opens f ≡ 0
 unfolding registrations
 none_open f = ap (λ es. count_by (λ (r : Registration). same_gfid f r.file) (map (λ (e : Registration × Unit {0}). e.0) es)) none_kept
   where
@@ -99,15 +106,9 @@ module _ (ws : List ℕ) (d : Disk) (new : AreNew ws d) (some : 0 < d.count) whe
   record_at_root : (b : ℕ) (r : DirRecord) → b < d.count → dir_at d b root ≡ Some r → (r.place ≡ None) × (r.depth ≡ 0)
   record_at_root b r l e =
       let first : DirRecord = root_record (planned_value ws root b) in
-      let is : dir_at d b root ≡ Some first = ap (λ (c : Contents). dir c.store root) (new.contents b l) ∙ get_at gfid_total empty root first in
+      let is : dir_at d b root ≡ Some first = ap (λ (c : Contents). dir c.store root) (new.contents b l) ∙ root_first _ in
       let same : r ≡ first = some_same (dir_at d b root) r first e is in
       (ap (λ (x : DirRecord). x.place) same, ap (λ (x : DirRecord). x.depth) same)
-
-  of_root : (b : ℕ) (g : Gfid) (r : DirRecord) → b < d.count → dir_at d b g ≡ Some r → g ≡ root
-  of_root b g r l e = (exact_gfid g root).0 (sym (root_at b g l) ∙ ap is_some e)
-
-  root_parts : (b : ℕ) (g : Gfid) (r : DirRecord) → b < d.count → dir_at d b g ≡ Some r → (r.place ≡ None) × (r.depth ≡ 0)
-  root_parts b g r l e = record_at_root b r l (ap (dir_at d b) (sym (of_root b g r l e)) ∙ e)
 
   root_home : (g : Gfid) → same_gfid g root ≡ is_some (dir_at d (home g) g)
   root_home g = elim (cases_lt (home g) d.count) [
@@ -148,21 +149,19 @@ module _ (ws : List ℕ) (d : Disk) (new : AreNew ws d) (some : 0 < d.count) whe
     kept = λ bytes shown e k. absurd (let z : None ≡ Some bytes = e in cc);
   }
 
-  dir_new : (g : Gfid) → DirInvariant d.count g (dir_view d g) (same_gfid g root)
-  dir_new g = record {
-    homed = root_home g;
-    led = λ b l h. (let e = (exact_gfid g root).0 (sym (root_at b g l) ∙ h) in (subst (λ (x : Gfid). home x < d.count) (sym e) some, (exact_gfid g root).1 e));
-    one = λ b i r q l k h e. (let m = root_parts b g r l h in let n = root_parts i g q k e in record { place = n.0 ∙ sym m.0; depth = n.1 ∙ sym m.1 });
-    placed = λ b r l h. (let m = root_parts b g r l h in subst (PlacedAt (dir_view d g) b r) (sym m.0) m.1);
-    rooted = λ b r l h none. of_root b g r l h;
-    named = λ b x l h. absurd (true_false (is_dir g (slot_at d b x).main) h (ap (λ (s : Slot). is_dir g s.main) (no_slot b x l)));
+  root_alone : RootAlone d
+  root_alone = record {
+    some_brick = some;
+    alone = root_at;
+    parts = record_at_root;
+    no_name = λ b x g l. ap (λ (s : Slot). is_dir g s.main) (no_slot b x l);
   }
 
   things_new : (top : ℕ) → Things d first_tree top no_claims
   things_new top = record {
     names = λ x. (Bare, record { fits = tt; has = λ b l. ap core (no_slot b x l); node = refl });
     files = λ f. file_new f top;
-    dirs = dir_new;
+    dirs = λ g. dir_alone d root_alone g (same_gfid g root) (root_home g);
     locks = lock_new;
     housed = λ x b l ne. absurd (ne (no_slot b x l));
     roots = λ b l. root_at b root l;
@@ -187,7 +186,7 @@ module _ (ws : List ℕ) (d : Disk) (new : AreNew ws d) (some : 0 < d.count) whe
       let o = slice_index_or (planned ws root) b None in
       let size = planned_length ws root in
       ap (λ (c : Contents). range_of (dir c.store root)) (new.contents b l)
-      ∙ (ap range_of (get_at gfid_total empty root (root_record (value_of o))) ∙ range_back o (planned_valid ws root heavy b None (omega arith)))
+      ∙ (ap range_of (root_first (value_of o)) ∙ range_back o (planned_valid ws root heavy b None (omega arith)))
 
   planned_new : HasWeight ws → d.count ≡ length ws → layout_of d root ≡ planned ws root
   planned_new heavy count =
@@ -209,9 +208,12 @@ module _ (ws : List ℕ) (d : Disk) (new : AreNew ws d) (some : 0 < d.count) whe
 
   pub new_early : HasWeight ws → d.count ≡ length ws → Early d (with_line start (Volume ws))
   new_early heavy count = record {
-    plain = λ x b l. inl (no_slot b x l);
+    plain = λ x b l. inl (ap core (no_slot b x l));
     unmoved = λ f b r l h. absurd (none_some (file_at d b f) r (no_file b f l) h);
-    held = λ x b f l h. absurd (none_some (name_at d b x) f (ap file_in (no_slot b x l)) h);
-    planned = planned_new heavy count;
+    unopened = λ b r l. ap (λ (c : Contents). contains_key c.opens.registered r) (new.contents b l) ∙ ap is_some (get-empty registration_cmp r);
+    covered = λ n. (let h = planned_holder ws root (dm n) heavy (dm_below n) in ap (λ ranges. is_some (holder ranges (dm n))) (planned_new heavy count) ∙ ap is_some h.2);
+    held = λ x b f first l h. absurd (none_some (name_at d b x) f (ap file_in (no_slot b x l)) h);
+    unlinked = λ x b first l. subst HasNone (sym (no_slot b x l)) refl;
     alone = λ b g l. root_at b g l;
+    earlier = λ g u. subst (λ (x : Gfid). run_of x ≤ 1) (sym (only_root g u)) (omega arith);
   }

@@ -1,6 +1,7 @@
 -- What stays where bricks store what they stored, or less: slots are bare, or files' records are gone.
 use Rattle.std.proofs.Common.{◌≡◌, ◌≢◌, ◌<◌, ℕ, true, false, refl, sym, ap, ◌∙◌, subst, inl, inr, ◌⊎◌}
 use Rattle.std.specs.Prelude.{Some, None, is_some}
+use Rattle.std.specs.FinMap.{contains_key}
 use Rattle.dht_types.specs.Gfid.{Entry, root, anchor}
 use Rattle.dht_types.specs.Tree.{Tree}
 use Rattle.dht_types.specs.History.{History}
@@ -8,16 +9,13 @@ use Rattle.dht_types.specs.declared.identifiers.Gfid.{Gfid}
 use Rattle.dht_types.specs.declared.locks.Key.{Key}
 use Rattle.dht_types.specs.declared.stored.Record.{Record}
 use Rattle.dht_types.specs.declared.stored.Slot.{Slot}
-use Rattle.dht_hash.specs.DaviesMeyer.{dm}
-use Rattle.dht_xattr.specs.Layout.{holder}
-use Rattle.dht_xattr.specs.Plan.{planned}
 use Rattle.dht_brick.specs.Contents.{Opens, bare}
 use Rattle.dht_brick.specs.OpenRows.{registrations, is_sealed}
 use Rattle.dht_brick.specs.Parts.{is_copy}
 use Rattle.dht_brick.specs.declared.replies.Reply.{Reply}
 use Rattle.dht_section.specs.declared.machine.Ask.{Ask}
 use Rattle.dht_section.specs.Claims.{Claim}
-use Rattle.dht_section.specs.Disk.{Disk, file_in, slot_at, name_at, file_at, dir_at, range_of, layout_of, holders}
+use Rattle.dht_section.specs.Disk.{Disk, file_in, slot_at, name_at, file_at, dir_at, holders}
 use Rattle.dht_section.specs.Early.{Early, IsPlain}
 use Rattle.dht_section.specs.Invariant.{Things, Used, most_hops}
 use Rattle.dht_section.specs.Moves.{Guarantee}
@@ -30,9 +28,9 @@ use Rattle.dht_invariant.specs.Locality.{Reach, NamesFile, NamesDir, ByDirRecord
 use Rattle.dht_invariant.specs.Touches.{Touches, OwnsFile, Same}
 use Rattle.dht_invariant.proofs.Basics.{none_some}
 use Rattle.dht_invariant.proofs.ClauseLocality.{reach_of, answers_leave_others}
+use Rattle.dht_invariant.proofs.EarlyLaws.{HasNone, early_on}
 use Rattle.dht_invariant.proofs.Frames.{used_kept}
 use Rattle.dht_invariant.proofs.GrowsLaws.{grows_refl}
-use Rattle.dht_invariant.proofs.LayoutLaws.{layout_same}
 
 -- bricks store what they stored, or less
 pub record StoresNoMore (d e : Disk) : Type 0 where
@@ -73,17 +71,13 @@ module _ (d e : Disk) (m : StoresNoMore d e) where
     | inr q ↦ absurd (ne q)
   ]
 
-  layouts_same : (g : Gfid) → layout_of e g ≡ layout_of d g
-  layouts_same g = layout_same d e g m.count (λ b. ap range_of (m.dirs b g))
-
-  pub early_no_more : (s t : History) → t.weights ≡ s.weights → Early d s → Early e t
-  early_no_more s t weights k = record {
-    plain = λ x b l. slot_by IsPlain b x (k.plain x b (within b l)) (inl refl);
-    unmoved = λ f b r l h. k.unmoved f b r (within b l) (record_was b f r h);
-    held = λ x b f l h. ap (λ ranges. holder ranges (dm x.1)) (layouts_same x.0) ∙ k.held x b f (within b l) (name_was b x f h);
-    planned = layouts_same root ∙ (k.planned ∙ ap (λ ws. planned ws root) (sym weights));
-    alone = λ b g l. ap is_some (m.dirs b g) ∙ k.alone b g (within b l);
-  }
+  pub early_no_more : (s t : History) → t.run ≡ s.run → ((b : ℕ) → (e.brick b).opens.registered ≡ (d.brick b).opens.registered) → ((g : Gfid) → Used e t.tree g → Used d s.tree g) → Early d s → Early e t
+  early_no_more s t run registered used k = early_on d e s t (record { count = m.count; run = run; dirs = m.dirs; unopened = λ b r h. ap (λ os. contains_key os r) (registered b) ∙ h }) k
+      (λ x b l. slot_by IsPlain b x (k.plain x b l) (inl refl))
+      (λ x b first l. slot_by HasNone b x (k.unlinked x b first l) refl)
+      (λ f b r l h. k.unmoved f b r l (record_was b f r h))
+      (λ x b f l h. inl (name_was b x f h))
+      (λ g u. inl (used g u))
 
   -- what is used was used, where the tree has what it had of it, and it is sealed where it was
   pub used_no_more : (t u : Tree) (g : Gfid) → u.bytes g ≡ t.bytes g → u.dirs g ≡ t.dirs g → (view_of e g).sealed ≡ (view_of d g).sealed → Used e u g → Used d t g

@@ -1,6 +1,7 @@
 -- What stays where bricks store what they stored: only locks, registrations, claims or lines of the history change.
-use Rattle.std.proofs.Common.{◌≡◌, ◌≢◌, ◌<◌, ◌≤◌, ℕ, refl, sym, ap, ◌∙◌, subst, length, arith}
+use Rattle.std.proofs.Common.{◌≡◌, ◌≢◌, ◌<◌, ◌≤◌, ℕ, false, refl, sym, ap, ◌∙◌, subst, inl, length, arith}
 use Rattle.std.specs.Prelude.{is_some, Any}
+use Rattle.std.specs.FinMap.{contains_key}
 use Rattle.dht_types.specs.Gfid.{Entry, root, anchor}
 use Rattle.dht_types.specs.Tree.{Tree}
 use Rattle.dht_types.specs.History.{History, PendingCall, IsOwn}
@@ -8,14 +9,12 @@ use Rattle.dht_types.specs.declared.identifiers.Gfid.{Gfid}
 use Rattle.dht_types.specs.declared.identifiers.ClientNo.{ClientNo}
 use Rattle.dht_types.specs.declared.locks.Key.{Key}
 use Rattle.dht_types.specs.declared.stored.Slot.{Slot}
-use Rattle.dht_hash.specs.DaviesMeyer.{dm}
-use Rattle.dht_xattr.specs.Layout.{holder}
-use Rattle.dht_xattr.specs.Plan.{planned}
 use Rattle.dht_brick.specs.Contents.{Store, Opens, slot, dir, file}
 use Rattle.dht_brick.specs.OpenRows.{registrations, is_sealed}
 use Rattle.dht_brick.specs.Parts.{is_copy, is_dir, is_plain}
+use Rattle.dht_brick.specs.declared.opens.Registration.{Registration}
 use Rattle.dht_section.specs.Claims.{Claim, places_of}
-use Rattle.dht_section.specs.Disk.{Disk, file_in, slot_at, file_at, dir_at, range_of, layout_of, holders}
+use Rattle.dht_section.specs.Disk.{Disk, file_in, slot_at, file_at, dir_at, holders}
 use Rattle.dht_section.specs.Early.{Early, IsPlain}
 use Rattle.dht_section.specs.Invariant.{Invariant, Things, Used, NothingUsed, most_hops}
 use Rattle.dht_section.specs.Locks.{LockInvariant}
@@ -25,9 +24,9 @@ use Rattle.dht_section.specs.Shapes.{NameShape, NameFits}
 use Rattle.dht_section.specs.Views.{core, cores_of, links_to, view_of, dir_view}
 use Rattle.dht_invariant.specs.Transition.{Transition, scene}
 use Rattle.dht_invariant.proofs.Basics.{none_some}
+use Rattle.dht_invariant.proofs.EarlyLaws.{HasNone, early_on}
 use Rattle.dht_invariant.proofs.Frames.{name_kept, dir_kept, dir_view_same, used_kept}
 use Rattle.dht_invariant.proofs.GrowsLaws.{grows_refl}
-use Rattle.dht_invariant.proofs.LayoutLaws.{layout_same}
 use Rattle.dht_invariant.proofs.LessLaws.{file_less}
 
 -- bricks store what they stored, the same files are sealed, and no file is open to more
@@ -35,6 +34,8 @@ pub record SameStores (d e : Disk) : Type 0 where
   pub count : e.count ≡ d.count
   pub stores : (b : ℕ) → (e.brick b).store ≡ (d.brick b).store
   pub opened : (b : ℕ) (f : Gfid) → registrations (e.brick b).opens f ≤ registrations (d.brick b).opens f
+  pub unopened : (b : ℕ) (r : Registration)
+      → contains_key (d.brick b).opens.registered r ≡ false → contains_key (e.brick b).opens.registered r ≡ false
   pub seals : (b : ℕ) (f : Gfid) → is_sealed (e.brick b).opens f ≡ is_sealed (d.brick b).opens f
 
 pub at_most : (m n : ℕ) → m ≡ n → m ≤ n
@@ -46,6 +47,7 @@ same_opens d e count stores opens = record {
   count = count;
   stores = stores;
   opened = λ b f. at_most (registrations (e.brick b).opens f) (registrations (d.brick b).opens f) (ap (λ (o : Opens). registrations o f) (opens b));
+  unopened = λ b r h. ap (λ (o : Opens). contains_key o.registered r) (opens b) ∙ h;
   seals = λ b f. ap (λ (o : Opens). is_sealed o f) (opens b);
 }
 
@@ -108,17 +110,13 @@ module _ (d e : Disk) (m : SameStores d e) where
       (λ b h. ap is_some (sym (dirs_same b g)) ∙ h)
       (sym (sealed_same g))
 
-  pub layouts_same : (g : Gfid) → layout_of e g ≡ layout_of d g
-  layouts_same g = layout_same d e g m.count (λ b. ap range_of (dirs_same b g))
-
-  pub early_same : (s t : History) → t.weights ≡ s.weights → Early d s → Early e t
-  early_same s t weights k = record {
-    plain = λ x b l. subst IsPlain (sym (slots_same b x)) (k.plain x b (within b l));
-    unmoved = λ f b r l h. k.unmoved f b r (within b l) (sym (files_same b f) ∙ h);
-    held = λ x b f l h. ap (λ ranges. holder ranges (dm x.1)) (layouts_same x.0) ∙ k.held x b f (within b l) (sym (ap file_in (slots_same b x)) ∙ h);
-    planned = layouts_same root ∙ (k.planned ∙ ap (λ ws. planned ws root) (sym weights));
-    alone = λ b g l. ap is_some (dirs_same b g) ∙ k.alone b g (within b l);
-  }
+  pub early_same : (s t : History) → t.tree ≡ s.tree → t.run ≡ s.run → Early d s → Early e t
+  early_same s t tree run k = early_on d e s t (record { count = m.count; run = run; dirs = dirs_same; unopened = m.unopened }) k
+      (λ x b l. subst IsPlain (sym (slots_same b x)) (k.plain x b l))
+      (λ x b first l. subst HasNone (sym (slots_same b x)) (k.unlinked x b first l))
+      (λ f b r l h. k.unmoved f b r l (sym (files_same b f) ∙ h))
+      (λ x b f l h. inl (sym (ap file_in (slots_same b x)) ∙ h))
+      (λ g u. inl (used_same s.tree g (subst (λ (x : Tree). Used e x g) tree u)))
 
   module _ (s t : History) (h : SameHistory s t) where
     pub invariant_same : (p q : ℕ → Claim) → ((f : Gfid) (b w : ℕ) → places_of q f b w ≤ places_of p f b w) → ((b : ℕ) (key : Key) → b < e.count → LockInvariant b key (holders e b key) q) → NothingUsed e t → Invariant d s p → Invariant e t q
@@ -185,7 +183,7 @@ module _ (d e : Disk) (m : SameStores d e) where
     transition_same c p q elsewhere less locks holds claims pending fresh k now = record {
       count = m.count;
       kept = invariant_same p q less locks fresh k;
-      early = early_same s t h.weights now;
+      early = early_same s t h.tree h.run now;
       later = h.later;
       pending = pending;
       claims = claims;

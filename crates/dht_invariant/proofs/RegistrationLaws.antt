@@ -1,11 +1,11 @@
 -- A file has no more registrations where those of one client are taken away.
-use Rattle.std.proofs.Common.{◌≡◌, ◌≤◌, ◌+◌, ℕ, Bool, refl, sym, ap, subst, ◌∙◌, cond, List, arith}
-use Rattle.std.specs.Prelude.{None, T, nat_eq, not, if◌then◌else◌, map, filter, count_by, sum_by}
+use Rattle.std.proofs.Common.{◌≡◌, ◌≤◌, ◌+◌, ℕ, Bool, true, false, refl, sym, ap, subst, ◌∙◌, cond, List, arith}
+use Rattle.std.specs.Prelude.{None, is_some, T, nat_eq, not, if◌then◌else◌, map, filter, count_by, sum_by}
 use Rattle.std.specs.Ordering.{nat_cmp, ordering_then}
 use Rattle.std.specs.Cmp.{IsTotalOrder}
 use Rattle.std.proofs.lemmas.Cmp.{on_total, then_total, nat_cmp_total}
 use Rattle.std.proofs.lemmas.Map.Lookups.{exact_unsigned}
-use Rattle.std.specs.FinMap.{FinMap, IsAntisymmetric, entries, entries_sorted, is_sorted, retain_keys, from_sorted, get-retain_keys, get-from_sorted, get-entries, entries-from_sorted, same_map}
+use Rattle.std.specs.FinMap.{FinMap, IsAntisymmetric, get, contains_key, entries, entries_sorted, is_sorted, retain_keys, from_sorted, get-retain_keys, get-from_sorted, get-entries, entries-from_sorted, same_map}
 use Rattle.std.specs.FinMap.Entries.{where_key, is_sorted-where_key, find-where_key}
 use Rattle.std.specs.declared.cmp.Ordering.{Ordering}
 use Rattle.std.specs.declared.cmp.Ordering.TheVariants.{Less, Equal, Greater}
@@ -60,3 +60,11 @@ filtered_less p q es =
 pub registrations_less : (c : ℕ) (o : Opens) (f : Gfid) → registrations (opens_without c o) f ≤ registrations o f
 unfolding registrations
 registrations_less c o f = subst (λ es. count_by (λ (r : Registration). same_gfid f r.file) (map (λ (e : Registration × Unit {0}). e.0) es) ≤ registrations o f) (sym (entries_kept registration_total registration_exact o.registered (λ r. not (nat_eq c r.client.0)))) (filtered_less (λ r. same_gfid f r.file) (λ e. not (nat_eq c e.0.client.0)) (entries o.registered))
+
+-- what is not registered is not registered then
+pub unregistered_less : (c : ℕ) (o : Opens) (r : Registration) → contains_key o.registered r ≡ false → contains_key (opens_without c o).registered r ≡ false
+unregistered_less c o r h = ap is_some (get-retain_keys o.registered (λ x. not (nat_eq c x.client.0)) r (λ x t. ap (λ (y : Registration). not (nat_eq c y.client.0)) (sym (registration_exact r x t)))) ∙ kept (not (nat_eq c r.client.0))
+  where
+    kept : (v : Bool) → is_some (cond v (get o.registered r) None) ≡ false
+    kept true = h
+    kept false = refl

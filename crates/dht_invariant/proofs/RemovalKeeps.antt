@@ -20,7 +20,7 @@ use Rattle.dht_section.specs.Permits.{May}
 use Rattle.dht_section.specs.Rely.{IsFileUsed}
 use Rattle.dht_section.specs.Scene.{Scene, Sound}
 use Rattle.dht_section.specs.Views.{view_of}
-use Rattle.dht_invariant.specs.Laws.{IsRemoval, RemovalLeaves, RemovalsKeep}
+use Rattle.dht_invariant.specs.Laws.{IsRemoval, Preserves, RemovalsKeep}
 use Rattle.dht_invariant.proofs.ClauseLocality.{hops_grow}
 use Rattle.dht_invariant.proofs.DropKeeps.{drop_leaves}
 use Rattle.dht_invariant.proofs.Frames.{kept_by}
@@ -43,12 +43,12 @@ module _ (s t : Scene) (a : Ask) (r : Reply) (m : Guarantee s a r t) (sound : So
   things = things_same s.disk s.disk (same_stores s.disk) s.history.tree (most_hops s.history) (most_hops t.history) s.claims s.claims
       (hops_grow s.history t.history m.later) (λ f b w. at_most _ _ refl) sound.kept.things.locks sound.kept.things
 
-  undone_leaves : RemovalLeaves s t
+  undone_leaves : Preserves s t
   undone_leaves = record {
     things = subst (λ (p : ℕ → Claim). Things t.disk t.history.tree (most_hops t.history) p) (sym m.claims)
         (subst (λ (d : Disk). Things d t.history.tree (most_hops t.history) s.claims) (sym disk)
         (subst (λ (u : Tree). Things s.disk u (most_hops t.history) s.claims) (sym tree) things));
-    early = subst (λ (d : Disk). Early d t.history) (sym disk) (early_same s.disk s.disk (same_stores s.disk) s.history t.history m.weights sound.early);
+    early = subst (λ (d : Disk). Early d t.history) (sym disk) (early_same s.disk s.disk (same_stores s.disk) s.history t.history tree m.run sound.early);
     used = λ g h. subst (λ (u : Tree). Used s.disk u g) tree (subst (λ (d : Disk). Used d t.history.tree g) disk h);
     touches = taken_touches s t.disk t.history.tree (record {
       stores = record {
@@ -68,7 +68,7 @@ module _ (s t : Scene) (a : Ask) (r : Reply) (m : Guarantee s a r t) (sound : So
 
 -- ---- each of them
 
-by_request : (s t : Scene) (b : BrickNo) (q : Request) (r : Reply) → IsRemoval q → b.0 < s.disk.count → May s b.0 q → (m : Guarantee s (record { brick = b; request = q }) r t) → Sound s → RemovalLeaves s t
+by_request : (s t : Scene) (b : BrickNo) (q : Request) (r : Reply) → IsRemoval q → b.0 < s.disk.count → May s b.0 q → (m : Guarantee s (record { brick = b; request = q }) r t) → Sound s → Preserves s t
 by_request s t b (OnNames (Unlink d n f)) r is there may m sound = elim (came (OnNames (Unlink d n f)) (outcome_of s (record { brick = b; request = OnNames (Unlink d n f) })) (s.disk.brick b.0) m.real m.new m.served) [
   | WasDone given real done ↦ unlink_leaves s t b d n f r m sound there may.1 given real done
   | WasNot step same ↦ undone_leaves s t (record { brick = b; request = OnNames (Unlink d n f) }) r m sound step same

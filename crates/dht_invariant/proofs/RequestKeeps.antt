@@ -1,9 +1,10 @@
 -- A permitted request, however it was answered, is a transition.
-use Rattle.std.proofs.Common.{◌≡◌, ◌≢◌, ◌<◌, ◌≤◌, ◌^◌, ℕ, true, false, [], refl, sym, ap, ◌∙◌, subst, inl, inr, length, arith}
+use Rattle.std.proofs.Common.{◌≡◌, ◌≢◌, ◌<◌, ◌≤◌, ◌^◌, ℕ, true, false, [], refl, sym, ap, ◌∙◌, subst, inl, inr, ◌⊎◌, length, arith}
 use Rattle.std.specs.Prelude.{Option, Some, None, nat_eq, is_some, Any}
 use Rattle.dht_types.proofs.PutLaws.{put_same, put_other, exact_nat, exact_entry, exact_gfid}
 use Rattle.dht_types.specs.Put.{same_entry}
-use Rattle.dht_types.specs.Gfid.{Entry, root, anchor, same_gfid}
+use Rattle.std.specs.FinMap.{contains_key}
+use Rattle.dht_types.specs.Gfid.{Entry, anchor, same_gfid, run_of}
 use Rattle.dht_types.specs.Tree.{Tree, IsFile, applied}
 use Rattle.dht_types.specs.History.{PendingCall, IsOwn, deeds_after}
 use Rattle.dht_types.specs.declared.identifiers.Gfid.{Gfid}
@@ -16,19 +17,17 @@ use Rattle.dht_types.specs.declared.stored.Main.TheVariants.{File}
 use Rattle.dht_types.specs.declared.stored.Slot.{Slot}
 use Rattle.dht_types.specs.declared.stored.Record.{Record}
 use Rattle.dht_types.specs.declared.stored.Record.TheVariants as stored
-use Rattle.dht_hash.specs.DaviesMeyer.{dm}
-use Rattle.dht_xattr.specs.Layout.{holder}
-use Rattle.dht_xattr.specs.Plan.{planned}
 use Rattle.dht_brick.specs.Contents.{Contents, Store, Opens, bare, slot, dir, file}
 use Rattle.dht_brick.specs.Locality.{name_places}
 use Rattle.dht_brick.specs.OpenRows.{is_sealed}
 use Rattle.dht_brick.specs.Parts.{is_copy, with_main}
 use Rattle.dht_brick.specs.declared.requests.NameRequest.TheVariants.{Create}
+use Rattle.dht_brick.specs.declared.requests.Request.{Request}
 use Rattle.dht_brick.specs.declared.requests.Request.TheVariants.{OnNames}
 use Rattle.dht_brick.specs.declared.replies.Reply.{Reply}
 use Rattle.dht_section.specs.declared.machine.Ask.{Ask}
 use Rattle.dht_section.specs.Claims.{Claim, places_of}
-use Rattle.dht_section.specs.Disk.{file_in, slot_at, name_at, file_at, dir_at, range_of, layout_of, holder_of, holders}
+use Rattle.dht_section.specs.Disk.{file_in, slot_at, name_at, file_at, dir_at, holder_of, holders}
 use Rattle.dht_section.specs.Truth.{plain}
 use Rattle.dht_section.specs.Early.{Early, IsPlain, IsUnmoved}
 use Rattle.dht_section.specs.Invariant.{Invariant, Things, Used, NothingUsed, most_hops}
@@ -38,22 +37,22 @@ use Rattle.dht_section.specs.Permits.{May, Permitted, Changes}
 use Rattle.dht_section.specs.Rely.{IsFileUsed, IsNameless}
 use Rattle.dht_section.specs.Scene.{Scene, Sound}
 use Rattle.dht_section.specs.Views.{core, links_to}
-use Rattle.dht_invariant.specs.Laws.{RemovalLeaves}
+use Rattle.dht_invariant.specs.Laws.{Preserves}
 use Rattle.dht_invariant.specs.Makes.{Makes, IsNew}
 use Rattle.dht_invariant.specs.Touches.{Touches, OwnsFile}
 use Rattle.dht_invariant.specs.Transition.{Transition, OnlyMine}
 use Rattle.dht_invariant.proofs.Basics.{nat_cases, entry_cases, gfid_cases}
 use Rattle.dht_invariant.proofs.ContentsLaws.{slot_at_new, slot_off_new, file_at_new, file_off_new}
 use Rattle.dht_invariant.proofs.CreateKeeps.{no_link, same_copies, links_other, create_keeps}
-use Rattle.dht_invariant.proofs.EarlyLaws.{stands_plainly}
+use Rattle.dht_invariant.proofs.EarlyLaws.{HasNone, stands_plainly, early_on}
 use Rattle.dht_invariant.proofs.Frames.{brick_by, brick_is, kept_by, file_is_used, used_kept}
-use Rattle.dht_invariant.proofs.LayoutLaws.{layout_same}
+use Rattle.dht_invariant.proofs.LinktoKeeps.{linktos_keep}
 use Rattle.dht_invariant.proofs.LockKeeps.{locks_moved}
-use Rattle.dht_invariant.proofs.OwnLaws.{own_is}
+use Rattle.dht_invariant.proofs.OwnLaws.{own_is, own_run}
 use Rattle.dht_invariant.proofs.QuietKeeps.{SameStores, SameHistory, at_most, same_opens, same_stores, things_same, used_same, transition_same}
 use Rattle.dht_invariant.proofs.RelyLaws.{others_of}
 use Rattle.dht_invariant.proofs.RemovalKeeps.{removals_keep}
-use Rattle.dht_invariant.proofs.RowEffects.{Quiet, Adds, IsQuiet, IsCreate, Removes, effect}
+use Rattle.dht_invariant.proofs.RowEffects.{Quiet, Adds, IsQuiet, IsCreate, Removes, TurnsLinkto, effect}
 use Rattle.dht_invariant.proofs.ServedLaws.{others_hold}
 use Rattle.dht_invariant.proofs.TouchLaws.{OneSlot, one_slot_touches}
 
@@ -187,7 +186,7 @@ module _ (s t : Scene) (a : Ask) (r : Reply) (m : Guarantee s a r t) (sound : So
     }
 
     -- nothing stood at the name, and the file is of nothing
-    bare_before : (b : ℕ) → b < s.disk.count → slot_at s.disk b name ≡ bare
+    bare_before : (b : ℕ) → b < s.disk.count → core (slot_at s.disk b name) ≡ bare
     bare_before = elim (stands_plainly s.disk name (s.history.tree.names name) (sound.kept.things.names name) (sound.early.plain name)) [
       | inl z ↦ z.bare
       | inr z ↦ absurd (let w : Some (IsFile z.file) ≡ None = sym z.node ∙ may.wants.fits.1 in cc)
@@ -195,7 +194,7 @@ module _ (s t : Scene) (a : Ask) (r : Reply) (m : Guarantee s a r t) (sound : So
 
     is_new : IsNew s.disk s.history.tree name q.file
     is_new = record {
-      bare = record { fits = tt; has = λ b l. ap core (bare_before b l); node = may.wants.fits.1 };
+      bare = record { fits = tt; has = bare_before; node = may.wants.fits.1 };
       unused = may.also.1;
     }
 
@@ -251,56 +250,59 @@ module _ (s t : Scene) (a : Ask) (r : Reply) (m : Guarantee s a r t) (sound : So
         }
 
     -- ---- what holds for now
-    within : (i : ℕ) → i < t.disk.count → i < s.disk.count
-    within i l = subst (λ (n : ℕ). i < n) m.disk.count l
-
     slot_made : slot_at t.disk at name ≡ plain q.file
     slot_made = makes.slot ∙ ap (λ (p : Slot). with_main p (File q.file None)) (bare_before at p.there)
 
     slots_off : (i : ℕ) (x : Entry) → i ≢ at → slot_at t.disk i x ≡ slot_at s.disk i x
     slots_off i x ne = ap (λ (c : Contents). slot c.store x) (off i ne)
 
-    made_plain : (x : Entry) (i : ℕ) → i < t.disk.count → IsPlain (slot_at t.disk i x)
+    made_plain : (x : Entry) (i : ℕ) → i < s.disk.count → IsPlain (slot_at t.disk i x)
     made_plain x i l = elim (entry_cases x name) [
       | inl e ↦ elim (nat_cases i at) [
         | inl z ↦ inr (q.file, ap (λ (j : ℕ). slot_at t.disk j x) z ∙ (ap (slot_at t.disk at) e ∙ slot_made))
-        | inr ne ↦ subst IsPlain (sym (slots_off i x ne)) (sound.early.plain x i (within i l))
+        | inr ne ↦ subst IsPlain (sym (slots_off i x ne)) (sound.early.plain x i l)
       ]
-      | inr ne ↦ subst IsPlain (sym (slots_stay i x ne)) (sound.early.plain x i (within i l))
+      | inr ne ↦ subst IsPlain (sym (slots_stay i x ne)) (sound.early.plain x i l)
     ]
 
-    made_unmoved : (f : Gfid) (i : ℕ) (o : Record) → i < t.disk.count → file_at t.disk i f ≡ Some o → IsUnmoved o
+    made_none : (x : Entry) (i : ℕ) → s.history.run ≡ 1 → i < s.disk.count → HasNone (slot_at t.disk i x)
+    made_none x i first l = elim (entry_cases x name) [
+      | inl e ↦ elim (nat_cases i at) [
+        | inl z ↦ subst HasNone (sym (ap (λ (j : ℕ). slot_at t.disk j x) z ∙ (ap (slot_at t.disk at) e ∙ slot_made))) refl
+        | inr ne ↦ subst HasNone (sym (slots_off i x ne)) (sound.early.unlinked x i first l)
+      ]
+      | inr ne ↦ subst HasNone (sym (slots_stay i x ne)) (sound.early.unlinked x i first l)
+    ]
+
+    made_unmoved : (f : Gfid) (i : ℕ) (o : Record) → i < s.disk.count → file_at t.disk i f ≡ Some o → IsUnmoved o
     made_unmoved f i o l e = elim (gfid_cases f q.file) [
       | inl w ↦ elim (nat_cases i at) [
         | inl z ↦ ([], (let y : Some o ≡ Some (stored.Live 0 []) = sym e ∙ (ap (λ (j : ℕ). file_at t.disk j f) z ∙ (ap (file_at t.disk at) w ∙ makes.file)) in cc))
-        | inr ne ↦ sound.early.unmoved f i o (within i l) (sym (ap (λ (c : Contents). file c.store f) (off i ne)) ∙ e)
+        | inr ne ↦ sound.early.unmoved f i o l (sym (ap (λ (c : Contents). file c.store f) (off i ne)) ∙ e)
       ]
-      | inr ne ↦ sound.early.unmoved f i o (within i l) (sym (files_stay i f ne) ∙ e)
+      | inr ne ↦ sound.early.unmoved f i o l (sym (files_stay i f ne) ∙ e)
     ]
 
-    layouts_stay : (g : Gfid) → layout_of t.disk g ≡ layout_of s.disk g
-    layouts_stay g = layout_same s.disk t.disk g m.disk.count (λ i. ap range_of (dirs_stay i g))
-
-    holders_stay : (x : Entry) → holder_of t.disk x ≡ holder_of s.disk x
-    holders_stay x = ap (λ ranges. holder ranges (dm x.1)) (layouts_stay x.0)
-
-    made_held : (x : Entry) (i : ℕ) (f : Gfid) → i < t.disk.count → name_at t.disk i x ≡ Some f → holder_of t.disk x ≡ Some i
-    made_held x i f l e = holders_stay x ∙ elim (entry_cases x name) [
+    -- the one new name is on its holder
+    made_named : (x : Entry) (i : ℕ) (f : Gfid) → i < s.disk.count → name_at t.disk i x ≡ Some f → (name_at s.disk i x ≡ Some f) ⊎ (holder_of s.disk x ≡ Some i)
+    made_named x i f l e = elim (entry_cases x name) [
       | inl w ↦ elim (nat_cases i at) [
-        | inl z ↦ ap (holder_of s.disk) w ∙ (may.also.0 ∙ ap Some (sym z))
-        | inr ne ↦ sound.early.held x i f (within i l) (sym (ap file_in (slots_off i x ne)) ∙ e)
+        | inl z ↦ inr (ap (holder_of s.disk) w ∙ (may.also.0 ∙ ap Some (sym z)))
+        | inr ne ↦ inl (sym (ap file_in (slots_off i x ne)) ∙ e)
       ]
-      | inr ne ↦ sound.early.held x i f (within i l) (sym (ap file_in (slots_stay i x ne)) ∙ e)
+      | inr ne ↦ inl (sym (ap file_in (slots_stay i x ne)) ∙ e)
+    ]
+
+    made_earlier : (g : Gfid) → Used t.disk t.history.tree g → Used s.disk s.history.tree g ⊎ (run_of g ≤ s.history.run)
+    made_earlier g u = elim (gfid_cases g q.file) [
+      | inl e ↦ inr (own_run s.history.run s.who s.mine.number g h.client h.small (subst (IsOwn s.history.run s.who s.mine.number) (sym e) may.wants.own))
+      | inr ne ↦ inl (used_before g ne u)
     ]
 
     made_early : Early t.disk t.history
-    made_early = record {
-      plain = made_plain;
-      unmoved = made_unmoved;
-      held = made_held;
-      planned = layouts_stay root ∙ (sound.early.planned ∙ ap (λ ws. planned ws root) (sym m.weights));
-      alone = λ i g l. ap is_some (dirs_stay i g) ∙ sound.early.alone i g (within i l);
-    }
+    made_early = early_on s.disk t.disk s.history t.history
+        (record { count = m.disk.count; run = m.run; dirs = dirs_stay; unopened = λ i o k. ap (λ (x : Opens). contains_key x.registered o) (opens_stay i) ∙ k }) sound.early
+        made_plain made_none made_unmoved made_named made_earlier
 
     -- ---- what it is to others
     no_names : (g : Gfid) → Some q.file ≡ Some g → OwnsFile s g
@@ -356,9 +358,9 @@ module _ (s t : Scene) (a : Ask) (r : Reply) (m : Guarantee s a r t) (sound : So
     made_transition : Transition s.who.0 s.disk s.history s.claims t.disk t.history t.claims
     made_transition = changed_transition made_invariant made_early touches
 
-  -- ---- a request that takes something away
+  -- ---- a request that takes something away, or is of a linkto
 
-  module _ (q : RemovalLeaves s t) where
+  module _ (q : Preserves s t) where
     -- a call that has done nothing now had done nothing
     deeds_before : (o : Option TreeStep) → t.mine.deeds ≡ deeds_by s t.history.size o → t.mine.deeds ≡ None → s.mine.deeds ≡ None
     deeds_before None e none = sym e ∙ none
@@ -401,4 +403,7 @@ request_transition s t a r m sound p h = elim (effect _ s a.brick.0 a.request (s
   | IsQuiet q ↦ quiet_transition s t a r m sound p h q
   | IsCreate q ↦ made_transition s t a r m sound p h q
   | Removes q ↦ left_transition s t a r m sound p h (removals_keep s t a r q p m sound)
+  | TurnsLinkto n q e ↦
+      let may : May s a.brick.0 (OnNames n) = subst (May s a.brick.0) e p.may in
+      left_transition s t a r m sound p h (linktos_keep s t a.brick n r q p.there may.1 (subst (λ (x : Request). Guarantee s (record { brick = a.brick; request = x }) r t) e m) sound).kept
 ]

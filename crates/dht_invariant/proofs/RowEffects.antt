@@ -1,4 +1,4 @@
--- What a permitted request that was served did to its brick: nothing but with locks; it made a file; or it is one that takes something away.
+-- What a permitted request that was served did to its brick: nothing but with locks; it made a file; or it is one that takes something away, or is of a linkto.
 use Rattle.std.proofs.Common.{◌≡◌, ℕ, Bool, true, false, List, refl, sym, ap}
 use Rattle.std.specs.Prelude.{Option, Some, None, is_some, is_none, ◌&&◌}
 use Rattle.dht_types.specs.declared.identifiers.Gfid.{Gfid}
@@ -15,7 +15,7 @@ use Rattle.dht_brick.specs.Parts.{is_bare}
 use Rattle.dht_brick.specs.Rows.{row, after, with_store, with_locks}
 use Rattle.dht_brick.specs.declared.requests.FileRequest.TheVariants.{Drop}
 use Rattle.dht_brick.specs.declared.requests.NameRequest.{NameRequest}
-use Rattle.dht_brick.specs.declared.requests.NameRequest.TheVariants.{Look, Dirinfo, Create, Unlink}
+use Rattle.dht_brick.specs.declared.requests.NameRequest.TheVariants.{Look, Dirinfo, Create, MakeLinkto, DropLinkto, Unlink}
 use Rattle.dht_brick.specs.declared.requests.Request.{Request}
 use Rattle.dht_brick.specs.declared.requests.Request.TheVariants.{Lock, Unlock, Seal, OnNames, OnFile}
 use Rattle.dht_brick.specs.declared.replies.Given.{Given}
@@ -24,7 +24,7 @@ use Rattle.dht_brick.specs.declared.replies.Reply.TheVariants.{Ok as Carried, Re
 use Rattle.dht_section.specs.Moves.{step_of}
 use Rattle.dht_section.specs.Permits.{May}
 use Rattle.dht_section.specs.Scene.{Scene}
-use Rattle.dht_invariant.specs.Laws.{IsRemoval}
+use Rattle.dht_invariant.specs.Laws.{IsOfLinkto, IsRemoval}
 use Rattle.dht_invariant.proofs.ContentsLaws.{added, new_slot}
 use Rattle.dht_invariant.proofs.ServedLaws.{within_keeps, served_keeps}
 
@@ -124,11 +124,12 @@ created_by d n f c given new (Some x) true e v = record {
 unchanged : (q : Request) (r : Reply) (c new : Contents) → step_of q r ≡ None → new ≡ c → Quiet q r c new
 unchanged q r c new step e = record { step = step; store = ap (λ (x : Contents). x.store) e; opens = ap (λ (x : Contents). x.opens) e }
 
--- what a request that was permitted and served did: nothing but with locks; it made a file; or it is one that takes something away
+-- what a request that was permitted and served did: nothing but with locks; it made a file; or it is one that takes something away, or is of a linkto
 pub data Effect (q : Request) (r : Reply) (c new : Contents) : Type 0 where
   IsQuiet : Quiet q r c new → Effect q r c new
   IsCreate : Adds q r c new → Effect q r c new
   Removes : IsRemoval q → Effect q r c new
+  TurnsLinkto : (n : NameRequest) → IsOfLinkto n → q ≡ OnNames n → Effect q r c new
 
 effect_create : (d : Gfid) (n : List ℕ) (f : Gfid) (c : Contents) (r : Reply) (new : Contents) (o : Option DirRecord) (b : Bool) → dir c.store d ≡ o → ServesOrFails (created d n f c o b) c r new → Effect (OnNames (Create d n f)) r c new
 effect_create d n f c (Carried given) new o b e v = IsCreate (created_by d n f c given new o b e v)
@@ -144,6 +145,8 @@ effect bricks s b (Unlock key) c r new may v = IsQuiet (effect_quiet bricks s (U
 effect bricks s b (OnNames (Look d n)) c r new may v = IsQuiet (effect_quiet bricks s (OnNames (Look d n)) c r new tt v)
 effect bricks s b (OnNames (Dirinfo d)) c r new may v = IsQuiet (effect_quiet bricks s (OnNames (Dirinfo d)) c r new tt v)
 effect bricks s b (OnNames (Create d n f)) c r new may v = effect_create d n f c r new (dir c.store d) (is_bare (slot c.store (d, n)) && is_none (file c.store f)) refl v
+effect bricks s b (OnNames (MakeLinkto d n value)) c r new may v = TurnsLinkto (MakeLinkto d n value) tt refl
+effect bricks s b (OnNames (DropLinkto d n)) c r new may v = TurnsLinkto (DropLinkto d n) tt refl
 effect bricks s b (OnNames (Unlink d n f)) c r new may v = Removes tt
 effect bricks s b (OnNames q) c r new may v = absurd may.0
 effect bricks s b (OnFile (Drop f)) c r new may v = Removes tt

@@ -29,7 +29,7 @@ use Rattle.dht_section.specs.Moves.{Guarantee, outcome_of, step_of, tree_by}
 use Rattle.dht_section.specs.Rely.{IsNameless}
 use Rattle.dht_section.specs.Scene.{Scene, Sound}
 use Rattle.dht_section.specs.Views.{FileView, links_to, view_of}
-use Rattle.dht_invariant.specs.Laws.{RemovalLeaves}
+use Rattle.dht_invariant.specs.Laws.{Preserves}
 use Rattle.dht_invariant.specs.Locality.{ALock, ARegistration, ASeal, NamesFile, ByFileRecord, ByFileName, ByRegistration, BySeal, NamesLock, FileClause}
 use Rattle.dht_invariant.proofs.Basics.{gfid_cases}
 use Rattle.dht_invariant.proofs.ClauseLocality.{reach_of, answer_shows, hops_grow}
@@ -143,7 +143,7 @@ module _ (s t : Scene) (b : BrickNo) (f : Gfid) (r : Reply) (m : Guarantee s (re
     | inr ne ↦ used_no_more s.disk t.disk stores s.history.tree t.history.tree g (ap (λ (u : Tree). u.bytes g) tree) (ap (λ (u : Tree). u.dirs g) tree) (ap (λ (v : FileView). v.sealed) (same_view g ne)) h
   ]
 
-  pub seal_leaves : RemovalLeaves s t
+  pub seal_leaves : Preserves s t
   seal_leaves = record {
     things = things_no_more s t ask r m stores
         (λ x. inl (λ k. let z : None ≡ Some x = k in cc))
@@ -152,7 +152,7 @@ module _ (s t : Scene) (b : BrickNo) (f : Gfid) (r : Reply) (m : Guarantee s (re
           | inr ne ↦ inl (other_file g ne)
         ])
         (no_dir_named (reach_of s ask) b.0 s.disk t.disk refl refl refl) no_lock sound.kept.things;
-    early = early_no_more s.disk t.disk stores s.history t.history m.weights sound.early;
+    early = early_no_more s.disk t.disk stores s.history t.history m.run (stays (λ (c : Contents). c.opens.registered) (ap (λ (o : Opens). o.registered) row.opens)) used_before sound.early;
     used = used_before;
     touches = taken_touches s t.disk t.history.tree (record {
       stores = stores;

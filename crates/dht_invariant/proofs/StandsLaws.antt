@@ -210,13 +210,13 @@ stands_of d s p k now = record {
 
 -- ---- each file of the tree stands once, on its holder
 
-pub placed_of : (d : Disk) (s : History) (p : ℕ → Claim) (x : Entry) (f : Gfid) → Invariant d s p → Early d s → s.tree.names x ≡ Some (IsFile f) → Placed d x
-placed_of d s p x f k now told = elim (stands_plainly d x (s.tree.names x) (k.things.names x) (now.plain x)) [
+pub placed_of : (d : Disk) (s : History) (p : ℕ → Claim) (x : Entry) (f : Gfid) → Invariant d s p → Early d s → s.run ≡ 1 → s.tree.names x ≡ Some (IsFile f) → Placed d x
+placed_of d s p x f k now first told = elim (stands_plainly d x (s.tree.names x) (k.things.names x) (now.plain x)) [
   | inl z ↦ absurd (let w : None ≡ Some (IsFile f) = sym z.node ∙ told in cc)
   | inr z ↦ record {
     brick = z.brick;
     there = z.there;
-    holds = now.held x z.brick z.file z.there (ap file_in z.slot);
+    holds = now.held x z.brick z.file first z.there (ap file_in z.slot);
     file = z.file;
     slot = z.slot;
     recorded =
@@ -224,6 +224,6 @@ placed_of d s p x f k now told = elim (stands_plainly d x (s.tree.names x) (k.th
         (main_record d.count (view_of d z.file).records (k.things.files z.file).shape z.brick (k.things.files z.file).records
         ((k.things.files z.file).linked z.brick x z.there (links_main z.file z.file None (slot_at d z.brick x) (ap (λ (p : Slot). p.main) z.slot) refl)) z.there)
         (λ r e. now.unmoved z.file z.brick r z.there e);
-    alone = z.alone;
+    alone = λ b l ne. now.unlinked x b first l ∙ z.alone b l ne;
   }
 ]

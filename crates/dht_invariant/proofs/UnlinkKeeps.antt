@@ -29,14 +29,14 @@ use Rattle.dht_brick.specs.declared.requests.Request.TheVariants.{OnNames}
 use Rattle.dht_section.specs.declared.machine.Ask.{Ask}
 use Rattle.dht_section.specs.Claims.{places_of}
 use Rattle.dht_section.specs.Disk.{slot_at, file_at, dir_at}
-use Rattle.dht_section.specs.Invariant.{most_hops}
+use Rattle.dht_section.specs.Invariant.{Used, most_hops}
 use Rattle.dht_section.specs.Moves.{Guarantee, outcome_of, step_of, tree_by}
 use Rattle.dht_section.specs.Permits.{Changes}
 use Rattle.dht_section.specs.Scene.{Scene, Sound, Guards, NameStands}
 use Rattle.dht_section.specs.Shapes.{Bare, Plain, body, core_at}
 use Rattle.dht_section.specs.Truth.{plain}
 use Rattle.dht_section.specs.Views.{core, links_to, view_of}
-use Rattle.dht_invariant.specs.Laws.{RemovalLeaves}
+use Rattle.dht_invariant.specs.Laws.{Preserves}
 use Rattle.dht_invariant.specs.Locality.{NoHold, ALock, ARegistration, ASeal, NamesFile, ByFileRecord, ByFileName, ByRegistration, BySeal, NamesDir, ByDirRecord, ByDirName, ByParent, NamesLock, NameClause, FileClause, is_of}
 use Rattle.dht_invariant.proofs.Basics.{nat_cases, entry_cases, gfid_cases, other_some, both_true, true_false, not_true, here_at, here_off}
 use Rattle.dht_invariant.proofs.ClauseLocality.{reach_of, answer_changes, hops_grow}
@@ -230,7 +230,10 @@ module _ (s t : Scene) (b : BrickNo) (d : Gfid) (n : List ℕ) (f : Gfid) (r : R
   no_lock : (i : ℕ) (key : Key) → NamesLock (reach_of s ask) b.0 i key → ⊥
   no_lock i key h = let z : NoHold ≡ ALock key h.client = h.hold in cc
 
-  pub unlink_leaves : RemovalLeaves s t
+  used_before : (g : Gfid) → Used t.disk t.history.tree g → Used s.disk s.history.tree g
+  used_before g = used_no_more s.disk t.disk stores s.history.tree t.history.tree g (bytes_same g) (dirs_same g) (sealed_same g)
+
+  pub unlink_leaves : Preserves s t
   unlink_leaves = record {
     things = things_no_more s t ask r m stores
         (λ x. elim (entry_cases x name) [
@@ -242,8 +245,8 @@ module _ (s t : Scene) (b : BrickNo) (d : Gfid) (n : List ℕ) (f : Gfid) (r : R
           | inr ne ↦ inl (other_file g ne)
         ])
         no_dir no_lock sound.kept.things;
-    early = early_no_more s.disk t.disk stores s.history t.history m.weights sound.early;
-    used = λ g. used_no_more s.disk t.disk stores s.history.tree t.history.tree g (bytes_same g) (dirs_same g) (sealed_same g);
+    early = early_no_more s.disk t.disk stores s.history t.history m.run (λ i. ap (λ (o : Opens). o.registered) (opens_stay i)) used_before sound.early;
+    used = used_before;
     touches = taken_touches s t.disk t.history.tree (record {
       stores = stores;
       locks = λ c i key ne. others_hold s t ask r m i key c ne;

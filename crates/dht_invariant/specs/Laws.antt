@@ -11,7 +11,7 @@ use Rattle.dht_types.specs.declared.identifiers.CallNo.{CallNo}
 use Rattle.dht_types.specs.declared.identifiers.ClientNo.{ClientNo}
 use Rattle.dht_types.specs.declared.identifiers.Gfid.{Gfid}
 use Rattle.dht_types.specs.declared.lines.Line.{Line}
-use Rattle.dht_types.specs.declared.lines.Line.TheVariants.{Volume, Died}
+use Rattle.dht_types.specs.declared.lines.Line.TheVariants.{Volume, Remounted, Died}
 use Rattle.dht_brick.specs.Contents.{Contents}
 use Rattle.dht_brick.specs.Outcome.{Do}
 use Rattle.dht_brick.specs.Rows.{row}
@@ -35,6 +35,7 @@ use Rattle.dht_section.specs.declared.machine.Ask.{Ask}
 use Rattle.dht_invariant.specs.Locality.{ChangesWithin, CarriesOut, ShowsTheSame, ClausesStand, OthersStand, reach}
 use Rattle.dht_invariant.specs.Makes.{Makes, IsNew}
 use Rattle.dht_invariant.specs.New.{AreNew}
+use Rattle.dht_invariant.specs.Remount.{Remounts, RemountsInPart}
 use Rattle.dht_invariant.specs.Touches.{Touches}
 use Rattle.dht_invariant.specs.Transition.{Transition, OnlyMine, IsQuiet, FreesClient}
 
@@ -91,12 +92,18 @@ IsOfLinkto (MakeLinkto d n value) = Unit {0}
 IsOfLinkto (DropLinkto d n) = Unit {0}
 IsOfLinkto q = ⊥
 
--- such a request, however it was answered: each thing is as it should be, no name stands otherwise and the tree is as it was, and nothing is touched but the guarded name
-pub record LinktoLeaves (s t : Scene) : Type 0 where
+-- what holds is kept, no gfid comes into use, and nothing is touched but what may be
+pub record Preserves (s t : Scene) : Type 0 where
   pub things : Things t.disk t.history.tree (most_hops t.history) t.claims
+  pub early : Early t.disk t.history
+  pub used : (g : Gfid) → Used t.disk t.history.tree g → Used s.disk s.history.tree g
+  pub touches : Touches s t.disk t.history.tree
+
+-- such a request, however it was answered: no name stands otherwise, and the tree is as it was
+pub record LinktoLeaves (s t : Scene) : Type 0 where
+  pub kept : Preserves s t
   pub tree : t.history.tree ≡ s.history.tree
   pub shapes : (x : Entry) (h : NameShape) → NameStands s x h → NameStands t x h
-  pub touches : Touches s t.disk t.history.tree
 
 abbrev pub LinktosKeep : Type 0
 LinktosKeep =
@@ -112,17 +119,11 @@ IsRemoval (OnFile (Drop f)) = Unit {0}
 IsRemoval (Seal f) = Unit {0}
 IsRemoval q = ⊥
 
--- such a request, however it was answered: what holds is kept, and no gfid comes into use
-pub record RemovalLeaves (s t : Scene) : Type 0 where
-  pub things : Things t.disk t.history.tree (most_hops t.history) t.claims
-  pub early : Early t.disk t.history
-  pub used : (g : Gfid) → Used t.disk t.history.tree g → Used s.disk s.history.tree g
-  pub touches : Touches s t.disk t.history.tree
-
+-- such a request, however it was answered
 abbrev pub RemovalsKeep : Type 0
 RemovalsKeep =
     (s t : Scene) (a : Ask) (r : Reply)
-    → IsRemoval a.request → Permitted s a → Guarantee s a r t → Sound s → RemovalLeaves s t
+    → IsRemoval a.request → Permitted s a → Guarantee s a r t → Sound s → Preserves s t
 
 -- nobody claims anything
 abbrev pub no_claims : ℕ → Claim
@@ -135,14 +136,29 @@ NewBricksMeet =
     → AreNew ws d → HasWeight ws → d.count ≡ length ws → 0 < d.count → d.count ≤ 32
     → Invariant d (with_line start (Volume ws)) no_claims × Early d (with_line start (Volume ws))
 
--- where the invariant holds, the bricks stand for the tree, and each name of the tree is placed
+-- a remount keeps the invariant, and what holds beside it for now: locks, registrations, seals and
+-- pointers go, the bricks that come are bare, and nothing is of the run that begins
+abbrev pub RemountsKeep : Type 0
+RemountsKeep =
+    (ws : List ℕ) (d e : Disk) (s : History) (p : ℕ → Claim)
+    → Invariant d s p → Early d s → HasWeight ws → length ws ≤ 32 → 0 < s.run → Remounts ws d e
+    → Invariant e (with_line s (Remounted ws)) p × Early e (with_line s (Remounted ws))
+
+-- and so does one that was broken off, and of which no line tells
+abbrev pub RemountsInPartKeep : Type 0
+RemountsInPartKeep =
+    (d e : Disk) (s : History) (p : ℕ → Claim)
+    → Invariant d s p → Early d s → RemountsInPart d e → Invariant e s p × Early e s
+
+-- where the invariant holds, the bricks stand for the tree
 abbrev pub BricksStand : Type 0
 BricksStand = (d : Disk) (s : History) (p : ℕ → Claim) → Invariant d s p → Early d s → Stands d s.tree
 
+-- and in the first run each name of the tree is placed
 abbrev pub NamesArePlaced : Type 0
 NamesArePlaced =
     (d : Disk) (s : History) (p : ℕ → Claim) (e : Entry) (f : Gfid)
-    → Invariant d s p → Early d s → s.tree.names e ≡ Some (IsFile f) → Placed d e
+    → Invariant d s p → Early d s → s.run ≡ 1 → s.tree.names e ≡ Some (IsFile f) → Placed d e
 
 -- ---- locality
 

@@ -43,10 +43,12 @@ pub record IsUnmoved (was : Option PendingCall) (r : PendingCall) : Type 0 where
   pub number : before.number ≡ r.number
   pub fresh : before.deeds ≡ None
 
--- the line tells nothing of the tree and the volume, and of no client's call but c's; which goes on, has ended, or has a number that no call had
+-- the line tells nothing of the tree, the volume and its run, and of no client's call but c's; which
+-- goes on, has ended, or has a number that no call had
 pub record IsQuiet (c : ℕ) (s : History) (x : Line) : Type 0 where
   pub tree : (tells s x).tree ≡ s.tree
   pub weights : (tells s x).weights ≡ s.weights
+  pub run : (tells s x).run ≡ s.run
   pub calls : s.calls ≤ (tells s x).calls
   pub pending : (w : ℕ) → w ≢ c → (tells s x).pending w ≡ s.pending w
   pub own : (r : PendingCall)

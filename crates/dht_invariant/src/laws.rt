@@ -3,7 +3,8 @@
 ghost use Rattle.dht_invariant.specs.Laws.{CreateKeeps, TransitionLaws, LinktosKeep, RemovalsKeep};
 ghost use Rattle.dht_invariant.specs.Laws.{RowsAreLocal, RequestsAreLocal};
 ghost use Rattle.dht_invariant.specs.Laws.{ClausesAreLocal, RequestsLeaveOthers, AnswersLeaveOthers};
-ghost use Rattle.dht_invariant.specs.Laws.{NewBricksMeet, BricksStand, NamesArePlaced};
+ghost use Rattle.dht_invariant.specs.Laws.{NewBricksMeet, RemountsKeep, RemountsInPartKeep};
+ghost use Rattle.dht_invariant.specs.Laws.{BricksStand, NamesArePlaced};
 
 /// A create that is carried out keeps the invariant of each thing.
 pub fn a_create_keeps_each_thing()
@@ -50,8 +51,15 @@ pub fn new_bricks_meet_the_invariant()
     ensures { NewBricksMeet }
 {}
 
-/// Where the invariant holds, the bricks stand for the tree, and each file name of the tree stands
-/// once, on its holder.
+/// A remount keeps the invariant, whatever clients claim and whichever calls are pending; and so
+/// does one that was broken off when some bricks were mounted anew.
+pub fn remounts_keep_the_invariant()
+    ensures whole { RemountsKeep }
+    ensures part { RemountsInPartKeep }
+{}
+
+/// Where the invariant holds, the bricks stand for the tree, and in the first run each file name of
+/// the tree stands once, on its holder.
 pub fn the_invariant_implies_the_truth()
     ensures stands { BricksStand }
     ensures placed { NamesArePlaced }

@@ -21,6 +21,7 @@ use dht_brick::replies::{Given, Reply, SlotShown, Why};
 use dht_guard::State;
 use dht_types::bytes::Bytes;
 use dht_types::identifiers::{BrickNo, Gfid};
+use dht_types::linktos::LinktoValue;
 use dht_types::names::EntryKey;
 use dht_types::stored::{DirRecord, Standby};
 use dht_xattr::linkto::linkto_brick;
@@ -145,7 +146,7 @@ impl Tables {
     }
 
     /// Puts a linkto of this value at a name that stands for nothing.
-    pub(crate) fn make_linkto(&mut self, key: &EntryKey, value: &Bytes) -> Reply
+    pub(crate) fn make_linkto(&mut self, key: &EntryKey, value: &LinktoValue) -> Reply
         ensures { ChangesAlone (NameRequest.MakeLinkto key.now.dir key.now.name value.now)
             (tables_in self.old) result (tables_in self.new) }
     {

@@ -1,2 +1,6 @@
 pub mod EntryLemmas
 pub mod CacheLaws
+pub mod FreeLooks
+pub mod LookupSteps
+pub mod LookupNotes
+pub mod ShortLaws

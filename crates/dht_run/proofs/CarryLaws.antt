@@ -1,6 +1,6 @@
 -- One event that was carried out, and whose lines were written.
 use Rattle.std.proofs.Common.{◌≡◌, ◌∙◌, ◌++◌, ℕ, List, [], ap}
-use Rattle.std.specs.Prelude.{Option, Result, Ok, Err, OnOk}
+use Rattle.std.specs.Prelude.{Option}
 use Rattle.dht_types.specs.History.{history_of}
 use Rattle.dht_types.specs.declared.events.Event.{Event}
 use Rattle.dht_types.specs.declared.lines.Line.{Line}
@@ -12,11 +12,6 @@ use Rattle.dht_world.specs.Places.{Adds}
 use Rattle.dht_world.specs.declared.events.World.{World}
 use Rattle.dht_run.specs.Outside.{after_told}
 use Rattle.dht_run.specs.SoFar.{Wrote}
-
--- what follows where all went well
-pub on_ok : {A E : Type 0} (r : Result A E) (P Q : Type 0) → (P → Q) → OnOk r P → OnOk r Q
-on_ok (Ok x) P Q f h = f h
-on_ok (Err e) P Q f h = tt
 
 -- all its lines were written
 pub event_wrote : {B C : Type 0} (b : BrickGhosts B) (c : CallerGhosts C) (old new : World B C) (n : ℕ) (event : Event) (past before after : List Line) (taken told : Option (List ℕ)) → before ≡ [] → Adds b c old new n event past before after → ¬ IsSpent (history_of past) event → told ≡ after_told taken (lines_text after)

@@ -2,7 +2,7 @@
 use Rattle.std.proofs.Common.{◌≡◌, ◌≢◌, ◌<◌, ℕ, List, [], ◌∷◌, ◌++◌, zero, suc, refl, sym, ap, ◌∙◌, subst, inl, inr, length, get_or, arith, append_assoc, length-append}
 use Rattle.std.specs.Prelude.{Option, Some, None, IfSome, Contains, Ok}
 use Rattle.dht_types.specs.declared.events.Event.{Event}
-use Rattle.dht_types.specs.declared.events.Event.TheVariants.{Volume, Call, Step, Down, Up, Die}
+use Rattle.dht_types.specs.declared.events.Event.TheVariants.{Volume, Remount, Call, Step, Down, Up, Die}
 use Rattle.dht_sched.specs.Schedule.{schedule_text, IsScheduled, IsOneLine, IsReadOf}
 use Rattle.dht_run.specs.LineReader.{HasNoNewline, HasNoLine}
 use Rattle.dht_run.specs.NextEvent.{HasNoEvent}
@@ -40,6 +40,8 @@ other_line cut line input (Some more) one h not eq = subst (λ (o : Option (List
 pub only_one : (o e : Event) → IsReadOf o (Ok e) → o ≡ e
 only_one (Volume w) e (inl q) = cc
 only_one (Volume w) e (inr q) = cc
+only_one (Remount w) e (inl q) = cc
+only_one (Remount w) e (inr q) = cc
 only_one (Call c call) e (inl q) = cc
 only_one (Call c call) e (inr q) = cc
 only_one (Step c) e q = cc

@@ -1,5 +1,5 @@
 -- How a run ends, from how the loop over its events does.
-use Rattle.std.proofs.Common.{◌≡◌, ◌+◌, ◌<◌, ℕ, List, [], ◌∷◌, ◌++◌, true, suc, refl, sym, ap, ◌∙◌, subst, inl, inr, length, take, arith, append-nil}
+use Rattle.std.proofs.Common.{◌≡◌, ◌+◌, ◌<◌, ℕ, List, [], ◌∷◌, ◌++◌, true, suc, refl, sym, ap, ◌∙◌, subst, inl, inr, ◌⊎◌, length, take, arith, append-nil}
 use Rattle.std.specs.Prelude.{◌≢◌, Option, None, Some}
 use Rattle.std.proofs.lemmas.List.{take_all}
 use Rattle.dht_types.specs.declared.events.Event.{Event}
@@ -7,15 +7,17 @@ use Rattle.dht_types.specs.declared.lines.Line.{Line}
 use Rattle.dht_brick.specs.Bricks.{BrickState}
 use Rattle.dht_sched.specs.Transcript.{lines_text, dump_lines_text, malformed_text, limit_text}
 use Rattle.dht_types.specs.History.{history_of}
-use Rattle.dht_world.specs.Bricks.{AreReady}
+use Rattle.dht_types.specs.Volume.{replay_info}
+use Rattle.dht_world.specs.Bricks.{volume_of, AreReady, AreReadyInEither}
+use Rattle.dht_world.specs.Places.{IsLed}
 use Rattle.dht_brick.specs.declared.brick.Brick.{Ghosts as BrickGhosts}
 use Rattle.dht_section.specs.declared.caller.Caller.{Ghosts as CallerGhosts}
 use Rattle.dht_world.specs.declared.events.World.{World}
 use Rattle.dht_run.specs.LineReader.{Reader, input_of}
 use Rattle.dht_run.specs.Outside.{after_told, IsAtEnd}
-use Rattle.dht_run.specs.Replay.{Replays, IsDone, StopsAtLine, StopsAtLimit, IsCutShort, MayFollow, EndsAs, dump_all, last_text}
+use Rattle.dht_run.specs.Replay.{CarriedOut, Replays, IsDone, StopsAtLine, StopsAtLimit, IsCutShort, IsCutInRemount, MayFollow, EndsAs, dump_all, last_text}
 use Rattle.dht_run.specs.Written.{TakesPrefix, IsCause}
-use Rattle.dht_run.specs.SoFar.{Carried, Reached, ReachedBad, ReachedLimit, Stopped, EndsSo}
+use Rattle.dht_run.specs.SoFar.{Carried, Reached, ReachedBad, ReachedLimit, Stopped, StoppedInRemount, EndsSo}
 use Rattle.dht_run.specs.declared.ending.Ending.{Ending}
 use Rattle.dht_run.specs.declared.ending.Ending.TheVariants.{Done, Usage, Malformed, SourceFailed, SinkFailed, OutOfMemory, Limit}
 use Rattle.dht_run.proofs.Told.{after_told-after_told}
@@ -37,13 +39,19 @@ written_all before taken new xs ys first second = second ∙ (ap (λ t. after_to
 abbrev pub GoesOn : {C : Type 0} → CallerGhosts C → Type 0
 GoesOn {C = C} c = (x : C) → c.is_busy x ≡ true → 0 < (c.stage x).variant
 
-replays_of : {B C : Type 0} (b : BrickGhosts B) (c : CallerGhosts C) → GoesOn c → (w : World B C) (count : ℕ) (text rest : Option (List ℕ)) (events : List Event) (lines : List Line) → Carried b c w count text rest events lines → Replays b.state w.bricks.items text rest events lines
-replays_of b c goes_on w count text rest events lines h = let fit = h.at.led.fit in record {
+-- what was carried out, over the bricks of a world that is where these lines lead to
+done_by : {B C : Type 0} (b : BrickGhosts B) (c : CallerGhosts C) → GoesOn c → (w v : World B C) (count : ℕ) (text rest : Option (List ℕ)) (events : List Event) (lines : List Line) → Carried b c w count text rest events lines → IsLed b c v lines → CarriedOut b.state v.bricks.items text rest events lines
+done_by b c goes_on w v count text rest events lines h led = record {
   schedule = h.schedule;
   limit = h.limit;
-  transcript = transcript_of b c goes_on w events lines h.at h.follows h.limited;
-  ready = subst (λ (ws : List ℕ). AreReady b.state ws (history_of lines).run (history_of lines).down w.bricks.items) (sym fit.same_weights) (subst (λ (run : ℕ). AreReady b.state w.weights run (history_of lines).down w.bricks.items) (sym fit.summary.run) h.at.ready);
+  transcript = transcript_of b c goes_on v events lines led h.follows h.limited;
   prefix = h.prefix;
+}
+
+replays_of : {B C : Type 0} (b : BrickGhosts B) (c : CallerGhosts C) → GoesOn c → (w : World B C) (count : ℕ) (text rest : Option (List ℕ)) (events : List Event) (lines : List Line) → Carried b c w count text rest events lines → Replays b.state w.bricks.items text rest events lines
+replays_of b c goes_on w count text rest events lines h = let fit = h.at.led.fit in record {
+  done = done_by b c goes_on w w count text rest events lines h h.at.led;
+  ready = subst (λ (ws : List ℕ). AreReady b.state ws (history_of lines).run (history_of lines).down w.bricks.items) (sym fit.same_weights) (subst (λ (run : ℕ). AreReady b.state w.weights run (history_of lines).down w.bricks.items) (sym fit.summary.run) h.at.ready);
 }
 
 -- where nothing is written behind the lines
@@ -57,6 +65,28 @@ cut_short b c goes_on w text before taken h = record {
   follows = inl refl;
   written = (h.written.0, h.written.1 ∙ ap (λ xs. after_told before (take h.written.0 xs)) (sym (append-nil (lines_text h.lines))));
 }
+
+-- where memory ran out in a remount
+cut_in_remount : {B C : Type 0} (b : BrickGhosts B) (c : CallerGhosts C) → GoesOn c → (w : World B C) (text before taken : Option (List ℕ)) → StoppedInRemount b c w text before taken → IsCutInRemount b.state w.bricks.items text before taken
+cut_in_remount b c goes_on w text before taken h =
+    let s = history_of h.lines in
+    let fit = h.remounting.led.fit in
+    record {
+      events = h.events;
+      lines = h.lines;
+      weights = h.weights;
+      after = h.after;
+      may = h.may;
+      done = done_by b c goes_on h.was w h.count text _ h.events h.lines h.carried h.remounting.led;
+      ready = subst (λ (ws : List ℕ). AreReadyInEither b.state (volume_of (length w.bricks.items) ws s.run) (replay_info h.weights (s.run + 1)) s.down w.bricks.items) (sym fit.same_weights)
+          (subst (λ (run : ℕ). AreReadyInEither b.state (volume_of (length w.bricks.items) w.weights run) (replay_info h.weights (run + 1)) s.down w.bricks.items) (sym fit.summary.run) h.remounting.ready);
+      written = h.written;
+    }
+
+-- where memory ran out, and nothing is written behind the lines
+out_of_memory : {B C : Type 0} (b : BrickGhosts B) (c : CallerGhosts C) → GoesOn c → (w : World B C) (text before taken : Option (List ℕ)) → Stopped b c w text before taken ⊎ StoppedInRemount b c w text before taken → IsCutShort b.state w.bricks.items text before taken ⊎ IsCutInRemount b.state w.bricks.items text before taken
+out_of_memory b c goes_on w text before taken (inl h) = inl (cut_short b c goes_on w text before taken h)
+out_of_memory b c goes_on w text before taken (inr h) = inr (cut_in_remount b c goes_on w text before taken h)
 
 -- where what stands behind the lines was written in part
 short : {B C : Type 0} (b : BrickGhosts B) (c : CallerGhosts C) → GoesOn c → (w : World B C) (count : ℕ) (text rest before taken new : Option (List ℕ)) (events : List Event) (lines : List Line) (last : List ℕ) → Carried b c w count text rest events lines → taken ≡ after_told before (lines_text lines) → MayFollow b.state w.bricks.items events lines rest last → TakesPrefix taken last new → IsCutShort b.state w.bricks.items text before new
@@ -129,7 +159,7 @@ ends_whole b c goes_on w count r text rest before taken new Done h told = ends_d
 ends_whole b c goes_on w count r text rest before taken new Malformed h told = ends_malformed b c goes_on w count text before taken new h told
 ends_whole b c goes_on w count r text rest before taken new Limit h told = ends_limit b c goes_on w count text before taken new h told
 ends_whole b c goes_on w count r text rest before taken new SinkFailed h told = cut_short b c goes_on w text before new (subst (Stopped b c w text before) (sym (told ∙ took_nothing taken)) h)
-ends_whole b c goes_on w count r text rest before taken new OutOfMemory h told = cut_short b c goes_on w text before new (subst (Stopped b c w text before) (sym (told ∙ took_nothing taken)) h)
+ends_whole b c goes_on w count r text rest before taken new OutOfMemory h told = out_of_memory b c goes_on w text before new (subst (λ (o : Option (List ℕ)). Stopped b c w text before o ⊎ StoppedInRemount b c w text before o) (sym (told ∙ took_nothing taken)) h)
 ends_whole b c goes_on w count r text rest before taken new SourceFailed h told = (let p = h.0 in record {
   events = p.events;
   lines = p.lines;
@@ -140,24 +170,24 @@ ends_whole b c goes_on w count r text rest before taken new SourceFailed h told 
 })
 
 -- where a prefix of it was written
-pub ends_in_part : {B C : Type 0} (b : BrickGhosts B) (c : CallerGhosts C) → GoesOn c → (w : World B C) (count : ℕ) (r : Reader) (text rest before taken new : Option (List ℕ)) (ending : Ending) → EndsSo b c w count r text rest before taken ending → TakesPrefix taken (last_text b.state w.bricks.items (count + 1) ending) new → IsCutShort b.state w.bricks.items text before new
-ends_in_part b c goes_on w count r text rest before taken new Usage h told = absurd h
-ends_in_part b c goes_on w count r text rest before taken new Done h told = (let p = h.0 in
+pub ends_in_part : {B C : Type 0} (b : BrickGhosts B) (c : CallerGhosts C) → GoesOn c → (w : World B C) (count : ℕ) (r : Reader) (text rest before taken new : Option (List ℕ)) (ending : Ending) → EndsSo b c w count r text rest before taken ending → (ending ≡ OutOfMemory → ⊥) → TakesPrefix taken (last_text b.state w.bricks.items (count + 1) ending) new → IsCutShort b.state w.bricks.items text before new
+ends_in_part b c goes_on w count r text rest before taken new Usage h not told = absurd h
+ends_in_part b c goes_on w count r text rest before taken new Done h not told = (let p = h.0 in
     let some = some_carried b c w count text rest p.events p.lines p.carried in
     short b c goes_on w count text rest before taken new p.events p.lines (last_text b.state w.bricks.items (count + 1) Done) p.carried p.written (inr (inl (some, h.1, refl))) told)
-ends_in_part b c goes_on w count r text rest before taken new Malformed h told =
+ends_in_part b c goes_on w count r text rest before taken new Malformed h not told =
     short b c goes_on w count text h.input before taken new h.events h.lines (malformed_text (count + 1)) h.carried h.written (inr (inr (inl (h.malformed, ap (λ n. malformed_text (n + 1)) h.carried.counted)))) told
-ends_in_part b c goes_on w count r text rest before taken new Limit h told =
+ends_in_part b c goes_on w count r text rest before taken new Limit h not told =
     short b c goes_on w count text h.input before taken new h.events h.lines limit_text h.carried h.written (inr (inr (inr (h.past_limit, refl)))) told
-ends_in_part b c goes_on w count r text rest before taken new SinkFailed h told = cut_short b c goes_on w text before new (subst (Stopped b c w text before) (sym (took_none taken new told)) h)
-ends_in_part b c goes_on w count r text rest before taken new OutOfMemory h told = cut_short b c goes_on w text before new (subst (Stopped b c w text before) (sym (took_none taken new told)) h)
-ends_in_part b c goes_on w count r text rest before taken new SourceFailed h told = (let p = h.0 in
+ends_in_part b c goes_on w count r text rest before taken new SinkFailed h not told = cut_short b c goes_on w text before new (subst (Stopped b c w text before) (sym (took_none taken new told)) h)
+ends_in_part b c goes_on w count r text rest before taken new OutOfMemory h not told = absurd (not refl)
+ends_in_part b c goes_on w count r text rest before taken new SourceFailed h not told = (let p = h.0 in
     short b c goes_on w count text (input_of r rest) before taken new p.events p.lines [] p.carried p.written (inl refl) told)
 
 -- the sink or memory cut the run short
 pub ends_short : {B : Type 0} (state : B → BrickState) (bricks : List B) (text rest before taken : Option (List ℕ)) (fault : Type 0) (ending : Ending) → IsCause ending fault → IsCutShort state bricks text before taken → EndsAs state bricks text rest before taken ending
 ends_short state bricks text rest before taken fault SinkFailed cause h = h
-ends_short state bricks text rest before taken fault OutOfMemory cause h = h
+ends_short state bricks text rest before taken fault OutOfMemory cause h = inl h
 ends_short state bricks text rest before taken fault Done (inl q) h = absurd (let z : Done ≡ SinkFailed = q.0 in cc)
 ends_short state bricks text rest before taken fault Done (inr q) h = absurd (let z : Done ≡ OutOfMemory = q in cc)
 ends_short state bricks text rest before taken fault Usage (inl q) h = absurd (let z : Usage ≡ SinkFailed = q.0 in cc)

@@ -1,8 +1,9 @@
 -- One event after another: what the loop over them keeps true, and how it ends.
-use Rattle.std.proofs.Common.{◌≡◌, ◌+◌, ◌≤◌, ◌<◌, ℕ, List, [], ◌∷◌, ◌++◌, refl, sym, ap, ◌∙◌, subst, inl, inr, length, take, arith}
-use Rattle.std.specs.Prelude.{Option, Some, None, IfSome, IfOk, Ok, Result}
+use Rattle.std.proofs.Common.{◌≡◌, ◌+◌, ◌≤◌, ◌<◌, ℕ, List, [], ◌∷◌, ◌++◌, refl, sym, ap, ◌∙◌, subst, inl, inr, ◌⊎◌, length, take, arith}
+use Rattle.std.specs.Prelude.{Option, Some, None, IfSome, IfOk, Ok, Err, Result}
 use Rattle.std.proofs.lemmas.List.{take_all}
 use Rattle.dht_types.specs.declared.events.Event.{Event}
+use Rattle.dht_types.specs.declared.events.Event.TheVariants.{Remount}
 use Rattle.dht_types.specs.declared.lines.Line.{Line}
 use Rattle.dht_sched.specs.Transcript.{lines_text}
 use Rattle.dht_world.specs.Places.{IsAt}
@@ -13,7 +14,7 @@ use Rattle.dht_run.specs.LineReader.{Reader, input_of, HasNoNewline}
 use Rattle.dht_types.specs.Faults.{HasFault}
 use Rattle.dht_run.specs.Outside.{before_told, after_told, IsAtEnd}
 use Rattle.dht_run.specs.Replay.{IsMalformed, IsAfterFirst}
-use Rattle.dht_run.specs.SoFar.{Carried, SoFar, Reached, ReachedBad, ReachedLimit, Stopped, EndsSo, Wrote, WroteInPart, Spends}
+use Rattle.dht_run.specs.SoFar.{Carried, SoFar, Reached, ReachedBad, ReachedLimit, Stopped, StoppedInRemount, IsInRemount, EndsSo, Wrote, WroteInPart, Spends}
 use Rattle.dht_run.specs.declared.ending.Ending.{Ending}
 use Rattle.dht_run.specs.declared.ending.Ending.TheVariants.{Done, Usage, Malformed, SourceFailed, SinkFailed, OutOfMemory, Limit}
 use Rattle.dht_sched.specs.Schedule.{schedule_text, IsScheduled, IsOneLine}
@@ -111,7 +112,7 @@ none_came b c w count old new text bl al before taken Usage bad failed nd nu nk 
 none_came b c w count old new text bl al before taken SinkFailed bad failed nd nu nk nl h = absurd (nk refl)
 none_came b c w count old new text bl al before taken Malformed bad failed nd nu nk nl h = no_event_reached b c w count old text bl before taken (bad refl) h
 none_came b c w count old new text bl al before taken Limit bad failed nd nu nk nl h = absurd (nl refl)
-none_came b c w count old new text bl al before taken OutOfMemory bad failed nd nu nk nl h = stopped_here b c w count old text bl before taken h
+none_came b c w count old new text bl al before taken OutOfMemory bad failed nd nu nk nl h = inl (stopped_here b c w count old text bl before taken h)
 none_came b c w count old new text bl al before taken SourceFailed bad failed nd nu nk nl h = (let f = failed refl in (
   record {
     events = h.events;
@@ -146,10 +147,9 @@ comes_next [] e some s a = absurd (omega arith)
 comes_next (x ∷ xs) e some s a = (s, a)
 
 -- the run was cut short while an event was carried out, or its lines were written
-pub stopped_in : {B C : Type 0} (b : BrickGhosts B) (c : CallerGhosts C) (w v : World B C) (count : ℕ) (old new : Reader) (e : Event) (text bl al before taken told : Option (List ℕ)) → CutsEvent old new bl al e → IsAfterFirst e → v.lines ≤ w.lines + 3
-    → ((past : List Line) → IsAt b c w past → WroteInPart b c w v (count + 1) e past taken told)
-    → SoFar b c w count old text bl before taken → Stopped b c v text before told
-stopped_in b c w v count old new e text bl al before taken told cuts later grows failed h = by (failed h.lines h.carried.at)
+stopped_in : {B C : Type 0} (b : BrickGhosts B) (c : CallerGhosts C) (w v : World B C) (count : ℕ) (old new : Reader) (e : Event) (text bl al before taken told : Option (List ℕ)) → CutsEvent old new bl al e → IsAfterFirst e → v.lines ≤ w.lines + 3
+    → (h : SoFar b c w count old text bl before taken) → WroteInPart b c w v (count + 1) e h.lines taken told → Stopped b c v text before told
+stopped_in b c w v count old new e text bl al before taken told cuts later grows h wrote_in_part = by wrote_in_part
   where
     by : WroteInPart b c w v (count + 1) e h.lines taken told → Stopped b c v text before told
     by (inl (at, same)) =
@@ -172,16 +172,51 @@ stopped_in b c w v count old new e text bl al before taken told cuts later grows
       );
     }
 
+-- memory ran out in a remount
+stopped_in_remount : {B C : Type 0} (b : BrickGhosts B) (c : CallerGhosts C) (w v : World B C) (count : ℕ) (old new : Reader) (e : Event) (text bl al before taken told : Option (List ℕ)) → CutsEvent old new bl al e → IsAfterFirst e → (h : SoFar b c w count old text bl before taken) → told ≡ taken → IsInRemount b c v e h.lines → StoppedInRemount b c v text before told
+stopped_in_remount b c w v count old new e text bl al before taken told cuts later h same in_remount =
+    let n = h.carried.counted in
+    let some = h.carried.some in
+    record {
+      was = w;
+      events = h.events;
+      lines = h.lines;
+      count = count;
+      weights = in_remount.weights;
+      after = input_of new al;
+      may = subst (MayCome h.events) in_remount.is (comes_next h.events e (omega arith) cuts.scheduled later);
+      carried = carried_from b c w count text (input_of old bl) (before_told (schedule_text (Remount in_remount.weights) ++ 10 ∷ []) (input_of new al)) h.events h.lines
+          (cuts.prefix ∙ ap (λ (o : Event). before_told (schedule_text o ++ 10 ∷ []) (input_of new al)) in_remount.is) h.carried;
+      remounting = in_remount.remounting;
+      written = same ∙ h.written;
+    }
+
+-- either of these
+pub stops : {B C : Type 0} (b : BrickGhosts B) (c : CallerGhosts C) (w v : World B C) (count : ℕ) (old new : Reader) (e : Event) (text bl al before taken told : Option (List ℕ)) (ending : Ending) → CutsEvent old new bl al e → IsAfterFirst e → v.lines ≤ w.lines + 3
+    → ((past : List Line) → IsAt b c w past → WroteInPart b c w v (count + 1) e past taken told ⊎ ((ending ≡ OutOfMemory) × (told ≡ taken) × IsInRemount b c v e past))
+    → SoFar b c w count old text bl before taken → Stopped b c v text before told ⊎ ((ending ≡ OutOfMemory) × StoppedInRemount b c v text before told)
+stops b c w v count old new e text bl al before taken told ending cuts later grows failed h = elim (failed h.lines h.carried.at) [
+  | inl wrote ↦ inl (stopped_in b c w v count old new e text bl al before taken told cuts later grows h wrote)
+  | inr in_remount ↦ inr (in_remount.0, stopped_in_remount b c w v count old new e text bl al before taken told cuts later h in_remount.1 in_remount.2)
+]
+
+-- an error is the ending
+pub cut_by : (e : Ending) (P Q R : Type 0) → P ⊎ ((◌≡◌ {A = Result (Unit {0}) Ending} (Err e) (Err OutOfMemory)) × Q × R) → P ⊎ ((e ≡ OutOfMemory) × Q × R)
+cut_by e P Q R (inl p) = inl p
+cut_by e P Q R (inr q) = inr ((let z : Err e ≡ Err OutOfMemory = q.0 in cc), q.1, q.2)
+
 -- other endings have no cause of these
 no_cause : (ending : Ending) (fault : Type 0) → IsEventCause ending fault → (ending ≡ Limit → ⊥) → (ending ≡ SinkFailed → ⊥) → (ending ≡ OutOfMemory → ⊥) → ⊥
 no_cause ending fault (inl q) nl nk nm = nl q
 no_cause ending fault (inr (inl q)) nl nk nm = nk q.0
 no_cause ending fault (inr (inr q)) nl nk nm = nm q
 
-pub stopped_ends : {B C : Type 0} (b : BrickGhosts B) (c : CallerGhosts C) (w : World B C) (count : ℕ) (r : Reader) (text rest before taken : Option (List ℕ)) (fault : Type 0) (ending : Ending) → IsEventCause ending fault → Stopped b c w text before taken → (ending ≡ Limit → ReachedLimit b c w count text before taken) → EndsSo b c w count r text rest before taken ending
+pub stopped_ends : {B C : Type 0} (b : BrickGhosts B) (c : CallerGhosts C) (w : World B C) (count : ℕ) (r : Reader) (text rest before taken : Option (List ℕ)) (fault : Type 0) (ending : Ending) → IsEventCause ending fault → Stopped b c w text before taken ⊎ ((ending ≡ OutOfMemory) × StoppedInRemount b c w text before taken) → (ending ≡ Limit → ReachedLimit b c w count text before taken) → EndsSo b c w count r text rest before taken ending
 stopped_ends b c w count r text rest before taken fault Limit cause h limit = limit refl
-stopped_ends b c w count r text rest before taken fault SinkFailed cause h limit = h
-stopped_ends b c w count r text rest before taken fault OutOfMemory cause h limit = h
+stopped_ends b c w count r text rest before taken fault SinkFailed cause (inl h) limit = h
+stopped_ends b c w count r text rest before taken fault SinkFailed cause (inr h) limit = absurd (let z : SinkFailed ≡ OutOfMemory = h.0 in cc)
+stopped_ends b c w count r text rest before taken fault OutOfMemory cause (inl h) limit = inl h
+stopped_ends b c w count r text rest before taken fault OutOfMemory cause (inr h) limit = inr h.1
 stopped_ends b c w count r text rest before taken fault Done cause h limit = absurd (no_cause Done fault cause (λ q. let z : Done ≡ Limit = q in cc) (λ q. let z : Done ≡ SinkFailed = q in cc) (λ q. let z : Done ≡ OutOfMemory = q in cc))
 stopped_ends b c w count r text rest before taken fault Usage cause h limit = absurd (no_cause Usage fault cause (λ q. let z : Usage ≡ Limit = q in cc) (λ q. let z : Usage ≡ SinkFailed = q in cc) (λ q. let z : Usage ≡ OutOfMemory = q in cc))
 stopped_ends b c w count r text rest before taken fault Malformed cause h limit = absurd (no_cause Malformed fault cause (λ q. let z : Malformed ≡ Limit = q in cc) (λ q. let z : Malformed ≡ SinkFailed = q in cc) (λ q. let z : Malformed ≡ OutOfMemory = q in cc))

@@ -6,7 +6,7 @@ pub mod FinishLaws
 pub mod GoOnLaws
 pub mod HeldBytes
 pub mod LineReaderLaws
-pub mod NewbornLaws
+pub mod NewBrickLaws
 pub mod PlaceLaws
 pub mod PrintLaws
 pub mod ReplayLaws

@@ -1,6 +1,6 @@
 -- New clients, one after the other.
 use Rattle.std.proofs.Common.{◌≡◌, ℕ, ◌+◌, List, [], ◌∷◌, ◌++◌, false, length, suc, zero, subst, arith}
-use Rattle.std.specs.Prelude.{Option, Some, None, slice_get}
+use Rattle.std.specs.Prelude.{Some, slice_get}
 use Rattle.dht_section.specs.declared.caller.Caller.{Ghosts as CallerGhosts}
 use Rattle.dht_client.specs.Client.{client_number, client_is_busy, client_stage}
 use Rattle.dht_client.specs.declared.calling.Client.{Client}

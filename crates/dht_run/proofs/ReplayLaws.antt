@@ -1,14 +1,13 @@
 -- One more event of a schedule, and the lines that it gave.
-use Rattle.std.proofs.Common.{◌≡◌, ◌+◌, ◌≤◌, ◌<◌, ℕ, List, [], ◌∷◌, ◌++◌, Bool, true, false, suc, refl, sym, ap, ◌∙◌, subst, inl, inr, length, arith, append_assoc, length-append}
+use Rattle.std.proofs.Common.{◌≡◌, ◌+◌, ◌≤◌, ◌<◌, ◌^◌, ℕ, List, [], ◌∷◌, ◌++◌, Bool, true, false, suc, refl, sym, ap, ◌∙◌, subst, length, arith, append_assoc, length-append}
 use Rattle.std.specs.Prelude.{Option, Some, None, IfSome, MatchBool, Contains, slice_get}
-use Rattle.std.proofs.lemmas.Option.{slice_get_cases}
 use Rattle.std.specs.List.{flat_map}
 use Rattle.dht_types.specs.Cost.{cost}
-use Rattle.dht_types.specs.History.{History, PendingCall, IsUndisturbed, with_lines, history_of, start}
-use Rattle.dht_types.proofs.HistoryLaws.{lines_append}
+use Rattle.dht_types.specs.History.{History, PendingCall, IsUndisturbed, with_line, with_lines, history_of, start}
+use Rattle.dht_types.proofs.HistoryLaws.{lines_append, run_with_line}
 use Rattle.dht_types.specs.declared.events.Event.{Event}
-use Rattle.dht_types.specs.declared.events.Event.TheVariants.{Volume, Call, Step, Down, Up, Die}
 use Rattle.dht_types.specs.declared.lines.Line.{Line}
+use Rattle.dht_types.specs.declared.lines.Line.TheVariants.{Remounted}
 use Rattle.dht_sched.specs.Schedule.{schedule_text, IsScheduled, IsOneLine}
 use Rattle.dht_section.specs.Claims.{Claim}
 use Rattle.dht_section.specs.Disk.{Disk}
@@ -18,8 +17,7 @@ use Rattle.dht_sched.specs.Transcript.{line_text, lines_text}
 use Rattle.dht_world.specs.Bricks.{disk_of, journals_of}
 use Rattle.dht_world.specs.Clients.{claims_of, ClientFits, Works}
 use Rattle.dht_world.specs.Following.{ComesFrom, Block, IsSpent, step_limit}
-use Rattle.dht_world.specs.World.{CanHappen}
-use Rattle.dht_world.specs.Places.{IsAt, Advances, summary_of}
+use Rattle.dht_world.specs.Places.{IsLed, Advances, summary_of}
 use Rattle.dht_world.specs.declared.places.Place.{Place}
 use Rattle.dht_world.specs.declared.places.Place.TheVariants.{Living, Dead}
 use Rattle.dht_world.proofs.ClientLaws.{holders_call}
@@ -32,7 +30,7 @@ use Rattle.dht_run.proofs.Told.{before_told-before_told}
 use Rattle.dht_run.specs.NextEvent.{CutsEvent, HasNoEvent}
 use Rattle.dht_run.specs.Replay.{schedule_of, IsSchedule, AreAfterFirst, IsAfterFirst, MayCome, IsMalformed, IsTranscript}
 use Rattle.dht_run.specs.SoFar.{Carried}
-use Rattle.dht_run.proofs.BlockLaws.{limited_more, no_others}
+use Rattle.dht_run.proofs.BlockLaws.{limited_more}
 
 -- one more event at the end
 pub schedule_more : (es : List Event) (e : Event) → schedule_of (es ++ e ∷ []) ≡ schedule_of es ++ (schedule_text e ++ 10 ∷ [])
@@ -72,14 +70,26 @@ pub lines_text-append : (xs ys : List Line) → lines_text (xs ++ ys) ≡ lines_
 unfolding lines_text
 lines_text-append xs ys = flat_more xs ys
 
--- an event that is scheduled and no volume can happen
-pub can_happen : (e : Event) → IsScheduled e → IsAfterFirst e → CanHappen e
-can_happen (Volume w) s a = a
-can_happen (Call c call) s a = tt
-can_happen (Step c) s a = tt
-can_happen (Down b) s a = tt
-can_happen (Up b) s a = tt
-can_happen (Die c) s a = tt
+-- each line begins one more run at most
+fewer_runs : (s : History) (x : Line) → s.run ≤ s.size + 1 → (with_line s x).run ≤ (with_line s x).size + 1
+fewer_runs s (Remounted w) l = omega arith
+fewer_runs s x l = (let same = run_with_line s x tt in omega arith)
+
+few_runs : (s : History) (xs : List Line) → s.run ≤ s.size + 1 → (with_lines s xs).run ≤ (with_lines s xs).size + 1
+few_runs s [] l = l
+few_runs s (x ∷ xs) l = few_runs (with_line s x) xs (fewer_runs s x l)
+
+-- so another run can begin
+pub run_small : {B C : Type 0} (b : BrickGhosts B) (c : CallerGhosts C) (w : World B C) (count : ℕ) (text rest : Option (List ℕ)) (events : List Event) (lines : List Line) → Carried b c w count text rest events lines → w.run + 1 < 2 ^ 32
+run_small b c w count text rest events lines h =
+    let summary = h.at.led.fit.summary in
+    let run = summary.run in
+    let size = summary.lines in
+    let few = h.few in
+    let shorter = h.shorter in
+    let limit = h.limit in
+    let runs = few_runs start lines (omega arith) in
+    omega arith
 
 -- nothing that may come next comes
 pub malformed_after : (events : List Event) (cut : ℕ) (input : List ℕ) → 0 < length events → cut ≡ length (schedule_of events) → HasNoEvent cut input → IsMalformed events input
@@ -131,34 +141,26 @@ answers_by c goes_on d s claims i x n true busy h r e alone =
     subst (λ (o : PendingCall). o.steps < cost (length s.weights) o.call) same (omega arith)
 answers_by c goes_on d s claims i x n false idle h r e alone = absurd (let z : Some r ≡ None = sym e ∙ h in cc)
 
-answers_at : {C : Type 0} (c : CallerGhosts C) → ((x : C) → c.is_busy x ≡ true → 0 < (c.stage x).variant) → (d : Disk) (s : History) (claims : ℕ → Claim) (i : ℕ) (place : Option (Place C)) → ClientFits c d s claims i place → (place ≡ None → s.pending i ≡ None) → (r : PendingCall) → s.pending i ≡ Some r → IsUndisturbed s r → r.steps < cost (length s.weights) r.call
-answers_at c goes_on d s claims i None h idle r e alone = absurd (let z : Some r ≡ None = sym e ∙ idle refl in cc)
-answers_at c goes_on d s claims i (Some Dead) h idle r e alone = absurd (let z : Some r ≡ None = sym e ∙ h.1 in cc)
-answers_at c goes_on d s claims i (Some (Living x n)) h idle r e alone = answers_by c goes_on d s claims i x n (c.is_busy x) refl h.2 r e alone
-
-past_end : {A : Type 0} (xs : List A) (i : ℕ) → slice_get xs i ≡ None → length xs ≤ i
-past_end xs i e = elim (slice_get_cases xs i).1 [
-  | inl h ↦ absurd (let z : Some h.0 ≡ None = sym h.2 ∙ e in cc)
-  | inr h ↦ h.0
-]
+answers_at : {C : Type 0} (c : CallerGhosts C) → ((x : C) → c.is_busy x ≡ true → 0 < (c.stage x).variant) → (d : Disk) (s : History) (claims : ℕ → Claim) (i : ℕ) (place : Option (Place C)) → ClientFits c d s claims i place → (r : PendingCall) → s.pending i ≡ Some r → IsUndisturbed s r → r.steps < cost (length s.weights) r.call
+answers_at c goes_on d s claims i None h r e alone = absurd (let z : Some r ≡ None = sym e ∙ h in cc)
+answers_at c goes_on d s claims i (Some Dead) h r e alone = absurd (let z : Some r ≡ None = sym e ∙ h.1 in cc)
+answers_at c goes_on d s claims i (Some (Living x n)) h r e alone = answers_by c goes_on d s claims i x n (c.is_busy x) refl h.2 r e alone
 
 -- the transcript so far is one
-pub transcript_of : {B C : Type 0} (b : BrickGhosts B) (c : CallerGhosts C) → ((x : C) → c.is_busy x ≡ true → 0 < (c.stage x).variant) → (w : World B C) (events : List Event) (lines : List Line) → IsAt b c w lines → ComesFrom start 1 events lines → (history_of lines).requests ≤ step_limit → IsTranscript events lines (disk_of b.state w.bricks.items) (journals_of b.state w.bricks.items)
-transcript_of b c goes_on w events lines at comes limited =
+pub transcript_of : {B C : Type 0} (b : BrickGhosts B) (c : CallerGhosts C) → ((x : C) → c.is_busy x ≡ true → 0 < (c.stage x).variant) → (w : World B C) (events : List Event) (lines : List Line) → IsLed b c w lines → ComesFrom start 1 events lines → (history_of lines).requests ≤ step_limit → IsTranscript events lines (disk_of b.state w.bricks.items) (journals_of b.state w.bricks.items)
+transcript_of b c goes_on w events lines led comes limited =
     let s = history_of lines in
     let d = disk_of b.state w.bricks.items in
-    let fit = at.led.fit in
+    let fit = led.fit in
     let claims = claims_of c w.clients.items in
-    let many = fit.many in
     record {
-      legal = at.led.legal;
+      legal = led.legal;
       follows = comes;
       logged = fit.logged;
       stands = λ some. stands_of d s claims fit.kept fit.early;
-      placed = λ e f h. placed_of d s claims e f fit.kept fit.early h;
-      in_time = at.led.in_time;
-      answers = λ i r e alone. answers_at c goes_on d s claims i (slice_get w.clients.items i) (fit.each i)
-          (λ none. no_others events lines comes i (let past = past_end w.clients.items i none in omega arith)) r e alone;
+      placed = λ e f first h. placed_of d s claims e f fit.kept fit.early first h;
+      in_time = led.in_time;
+      answers = λ i r e alone. answers_at c goes_on d s claims i (slice_get w.clients.items i) (fit.each i) r e alone;
       held = holders_call c d (journals_of b.state w.bricks.items) w.clients.items w.weights (summary_of w) s fit;
       limited = limited;
       counted = fit.kept.counted;

@@ -36,7 +36,7 @@ no_transcript state = record {
   follows = refl;
   logged = record { steps = λ b. refl; slots = λ b. refl };
   stands = λ some. absurd (some refl);
-  placed = λ e f h. absurd cc;
+  placed = λ e f first h. absurd cc;
   in_time = tt;
   answers = λ c r e alone. absurd cc;
   held = λ b key c m l. absurd (omega arith);
@@ -47,11 +47,13 @@ no_transcript state = record {
 -- nothing of the text was carried out
 nothing_replayed : {B : Type 0} (state : B → BrickState) (bricks : List B) (text rest : Option (List ℕ)) → bricks ≡ [] → rest ≡ text → Replays state bricks text rest [] []
 nothing_replayed {B = B} state bricks text rest none same = record {
-  schedule = tt;
-  limit = omega arith;
-  transcript = subst (λ (bs : List B). IsTranscript [] [] (disk_of state bs) (journals_of state bs)) (sym none) (no_transcript state);
+  done = record {
+    schedule = tt;
+    limit = omega arith;
+    transcript = subst (λ (bs : List B). IsTranscript [] [] (disk_of state bs) (journals_of state bs)) (sym none) (no_transcript state);
+    prefix = sym same ∙ sym (told_nothing rest);
+  };
   ready = subst (λ (bs : List B). AreReady state (history_of []).weights (history_of []).run (history_of []).down bs) (sym none) (λ b. tt);
-  prefix = sym same ∙ sym (told_nothing rest);
 }
 
 -- memory ran out before the first line
@@ -116,7 +118,7 @@ no_first state bricks old new text rest before Usage none held failed nm nd nu n
 no_first state bricks old new text rest before SinkFailed none held failed nm nd nu nk nl = absurd (nk refl)
 no_first state bricks old new text rest before Malformed none held failed nm nd nu nk nl = absurd (nm refl)
 no_first state bricks old new text rest before Limit none held failed nm nd nu nk nl = absurd (nl refl)
-no_first state bricks old new text rest before OutOfMemory none held failed nm nd nu nk nl = nothing_done state bricks text before none
+no_first state bricks old new text rest before OutOfMemory none held failed nm nd nu nk nl = inl (nothing_done state bricks text before none)
 no_first state bricks old new text rest before SourceFailed none held failed nm nd nu nk nl = (let f = failed refl in first_failed state bricks old new text rest before none held f.0 f.1)
 
 -- the volume's line was carried out

@@ -60,8 +60,8 @@ not_malformed one done all rest d a some limit e bad = (let r = rest_of one done
 
 -- a whole schedule does not stop at a line
 pub not_at_line : {B : Type 0} (state : B → BrickState) (bricks : List B) (text before taken : Option (List ℕ)) (all : List Event) → ((o : Event) → IsScheduled o → IsOneLine (schedule_text o)) → all ≢ [] → IsSchedule all → length (schedule_of all) ≤ INPUT_LIMIT → text ≡ Some (schedule_of all) → StopsAtLine state bricks text before taken → ⊥
-not_at_line state bricks text before taken all one some a limit is h = by h.rest (sym is ∙ h.replays.prefix) h.malformed
+not_at_line state bricks text before taken all one some a limit is h = by h.rest (sym is ∙ h.replays.done.prefix) h.malformed
   where
     by : (rest : Option (List ℕ)) → Some (schedule_of all) ≡ before_told (schedule_of h.events) rest → IfSome rest (IsMalformed h.events) → ⊥
     by None e bad = absurd (let z : Some (schedule_of all) ≡ None = e in cc)
-    by (Some rest) e bad = (let z : Some (schedule_of all) ≡ Some (schedule_of h.events ++ rest) = e in let same : schedule_of all ≡ schedule_of h.events ++ rest = cc in not_malformed one h.events all rest h.replays.schedule a some limit same bad)
+    by (Some rest) e bad = (let z : Some (schedule_of all) ≡ Some (schedule_of h.events ++ rest) = e in let same : schedule_of all ≡ schedule_of h.events ++ rest = cc in not_malformed one h.events all rest h.replays.done.schedule a some limit same bad)

@@ -10,3 +10,4 @@ pub mod Status
 pub mod SoFar
 pub mod Writes
 pub mod Written
+pub mod NewBricks

@@ -3,10 +3,11 @@ use Rattle.std.specs.Prelude.{ℕ, ◌+◌, ◌<◌, ◌≤◌, ◌≡◌, ◌�
 use Rattle.dht_types.specs.Cost.{cost}
 use Rattle.dht_types.specs.Gfid.{Entry}
 use Rattle.dht_types.specs.Tree.{IsFile}
+use Rattle.dht_types.specs.Volume.{replay_info}
 use Rattle.dht_types.specs.declared.identifiers.Gfid.{Gfid}
 use Rattle.dht_types.specs.History.{PendingCall, IsUndisturbed, Legal, history_of, start}
 use Rattle.dht_types.specs.declared.events.Event.{Event}
-use Rattle.dht_types.specs.declared.events.Event.TheVariants.{Volume, Call, Step, Down, Up, Die}
+use Rattle.dht_types.specs.declared.events.Event.TheVariants.{Volume, Remount, Call, Step, Down, Up, Die}
 use Rattle.dht_types.specs.declared.lines.Line.{Line}
 use Rattle.dht_types.specs.declared.lines.DumpLine.{DumpLine}
 use Rattle.dht_types.specs.declared.lines.DumpLine.TheVariants.{End}
@@ -17,7 +18,7 @@ use Rattle.dht_section.specs.Disk.{Disk}
 use Rattle.dht_section.specs.Truth.{Stands, Placed}
 use Rattle.dht_sched.specs.Schedule.{schedule_text, IsScheduled}
 use Rattle.dht_sched.specs.Transcript.{lines_text, dump_lines_text, malformed_text, limit_text}
-use Rattle.dht_world.specs.Bricks.{disk_of, journals_of, Logged, AreReady}
+use Rattle.dht_world.specs.Bricks.{disk_of, journals_of, volume_of, Logged, AreReady, AreReadyInEither}
 use Rattle.dht_world.specs.Following.{ComesFrom, InTimeFrom, IsSpent, step_limit}
 use Rattle.dht_world.specs.World.{HoldersCall}
 use Rattle.dht_run.specs.LineReader.{HasNoNewline}
@@ -35,6 +36,7 @@ schedule_of (e ∷ es) = schedule_text e ++ 10 ∷ schedule_of es
 -- the volume comes first and alone
 abbrev pub IsAfterFirst : Event → Type 0
 IsAfterFirst (Volume w) = ⊥
+IsAfterFirst (Remount w) = Unit {0}
 IsAfterFirst (Call c call) = Unit {0}
 IsAfterFirst (Step c) = Unit {0}
 IsAfterFirst (Down b) = Unit {0}
@@ -43,6 +45,7 @@ IsAfterFirst (Die c) = Unit {0}
 
 abbrev pub IsFirst : Event → Type 0
 IsFirst (Volume w) = Unit {0}
+IsFirst (Remount w) = ⊥
 IsFirst (Call c call) = ⊥
 IsFirst (Step c) = ⊥
 IsFirst (Down b) = ⊥
@@ -85,13 +88,13 @@ pub record IsPastLimit (events : List Event) (lines : List Line) (rest : Option 
   pub spent : IsSpent (history_of lines) event
   pub within : length (schedule_of events) + length (schedule_text event) + 1 ≤ INPUT_LIMIT
 
--- the lines are a transcript of the events, over bricks that contain and served this in the end: they are legal, come from the events one by one, and agree with the bricks' journals; no more of them tell of requests than a run may have; the bricks stand for the lines' tree, each file of which stands once, on its holder; each call that nobody disturbs answers in time; and each lock is held by a client that has a pending call
+-- the lines are a transcript of the events, over bricks that contain and served this in the end: they are legal, come from the events one by one, and agree with the bricks' journals; no more of them tell of requests than a run may have; the bricks stand for the lines' tree, and each file's name stands once, on its holder, as long as the volume was never mounted anew; each call that nobody disturbs answers in time; and each lock is held by a client that has a pending call
 pub record IsTranscript (events : List Event) (lines : List Line) (d : Disk) (js : ℕ → List JournalEntry) : Type 0 where
   pub legal : Legal lines
   pub follows : ComesFrom start 1 events lines
   pub logged : Logged js (history_of lines)
   pub stands : events ≢ [] → Stands d (history_of lines).tree
-  pub placed : (e : Entry) (f : Gfid) → (history_of lines).tree.names e ≡ Some (IsFile f) → Placed d e
+  pub placed : (e : Entry) (f : Gfid) → (history_of lines).run ≡ 1 → (history_of lines).tree.names e ≡ Some (IsFile f) → Placed d e
   pub in_time : InTimeFrom start lines
   pub answers : (c : ℕ) (r : PendingCall) → (history_of lines).pending c ≡ Some r → IsUndisturbed (history_of lines) r → r.steps < cost (length (history_of lines).weights) r.call
   pub held : HoldersCall d (history_of lines)
@@ -111,13 +114,21 @@ dump_from state n (b ∷ bricks) = brick_dump n (state b) ++ dump_from state (n 
 abbrev pub dump_all : {B : Type 0} → (B → BrickState) → List B → List DumpLine
 dump_all state bricks = dump_from state 0 bricks ++ End ∷ []
 
--- what every run has done: a schedule's events were carried out, which are a prefix of the text; the lines are their transcript, over these bricks; each brick is up, unless the lines say that it is down; what is left of the text is this
-pub record Replays {B : Type 0} (state : B → BrickState) (bricks : List B) (text rest : Option (List ℕ)) (events : List Event) (lines : List Line) : Type 0 where
+-- what every run has done: a schedule's events were carried out, which are a prefix of the text; the
+-- lines are their transcript, over these bricks; what is left of the text is this
+pub record CarriedOut {B : Type 0} (state : B → BrickState) (bricks : List B)
+    (text rest : Option (List ℕ)) (events : List Event) (lines : List Line) : Type 0 where
   pub schedule : IsSchedule events
   pub limit : length (schedule_of events) ≤ INPUT_LIMIT
   pub transcript : IsTranscript events lines (disk_of state bricks) (journals_of state bricks)
-  pub ready : AreReady state (history_of lines).weights (history_of lines).run (history_of lines).down bricks
   pub prefix : text ≡ before_told (schedule_of events) rest
+
+-- and each brick knows the lines' volume, and is up unless the lines say that it is down
+pub record Replays {B : Type 0} (state : B → BrickState) (bricks : List B)
+    (text rest : Option (List ℕ)) (events : List Event) (lines : List Line) : Type 0 where
+  pub done : CarriedOut state bricks text rest events lines
+  pub ready : AreReady state (history_of lines).weights (history_of lines).run
+      (history_of lines).down bricks
 
 -- the text was carried out whole, and the transcript and the dump were written
 pub record IsDone {B : Type 0} (state : B → BrickState) (bricks : List B) (text left before taken : Option (List ℕ)) : Type 0 where
@@ -180,12 +191,30 @@ pub record IsCutShort {B : Type 0} (state : B → BrickState) (bricks : List B) 
   pub follows : MayFollow state bricks events lines rest last
   pub written : TakesPrefix before (lines_text lines ++ last) taken
 
+-- memory ran out in a remount, that of the line that comes next; all before it was carried out, and
+-- written. Some bricks may have been mounted anew: each knows the volume of the lines, or the one that
+-- was to be, and is up unless the lines say that it is down
+pub record IsCutInRemount {B : Type 0} (state : B → BrickState) (bricks : List B)
+    (text before taken : Option (List ℕ)) : Type 0 where
+  pub events : List Event
+  pub lines : List Line
+  pub weights : List ℕ
+  pub after : Option (List ℕ)
+  pub may : MayCome events (Remount weights)
+  pub done : CarriedOut state bricks text
+      (before_told (schedule_text (Remount weights) ++ 10 ∷ []) after) events lines
+  pub ready : AreReadyInEither state
+      (volume_of (length bricks) (history_of lines).weights (history_of lines).run)
+      (replay_info weights ((history_of lines).run + 1)) (history_of lines).down bricks
+  pub written : taken ≡ after_told before (lines_text lines)
+
 -- how a replay ends: by its ending, what was carried out and what was written
 abbrev pub EndsAs : {B : Type 0} → (B → BrickState) → List B → (text left before taken : Option (List ℕ)) → Ending → Type 0
 EndsAs state bricks text left before taken Done = IsDone state bricks text left before taken
 EndsAs state bricks text left before taken Malformed = StopsAtLine state bricks text before taken
 EndsAs state bricks text left before taken SourceFailed = StopsAtSource state bricks text left before taken
 EndsAs state bricks text left before taken SinkFailed = IsCutShort state bricks text before taken
-EndsAs state bricks text left before taken OutOfMemory = IsCutShort state bricks text before taken
+EndsAs state bricks text left before taken OutOfMemory =
+    IsCutShort state bricks text before taken ⊎ IsCutInRemount state bricks text before taken
 EndsAs state bricks text left before taken Limit = StopsAtLimit state bricks text before taken
 EndsAs state bricks text left before taken Usage = ⊥

@@ -3,6 +3,7 @@
 //!
 //! - `words`: what the words ask for
 //! - `run`: the one call that the program makes, and the bricks that it leaves
+//! - `bricks`: new bricks, those of a volume line and those that come in a remount
 //! - `replay`: the loop over the events of a schedule, and what is written of them
 //! - `commands`, `layouts`: hashes and layouts, printed
 //! - `line_reader`: the lines of a source
@@ -13,6 +14,7 @@
 //! nor that memory ran out where a run says so.
 #![tactic(auto)]
 
+pub mod bricks;
 pub mod commands;
 pub mod ending;
 pub mod faults;

@@ -1,28 +1,27 @@
 //! A replay: the volume line, then one event after another, each one's lines written before the next
 //! is read, and at last what stands behind them.
 
-ghost use Rattle.std.specs.Prelude.{◌≡◌, ◌≢◌, ◌+◌, ◌++◌, ◌<◌, ◌≤◌, ◌^◌, ◌⊎◌, ℕ, true, false, Option, None, List, [], ◌∷◌, IfOk, OnOk, OnErr, IfErr, IfSome, length, take, vec_len};
+ghost use Rattle.std.specs.Prelude.{◌≡◌, ◌≢◌, ◌+◌, ◌++◌, ◌<◌, ◌≤◌, ◌^◌, ◌⊎◌, ◌↔◌, ℕ, true, false, Option, None, List, [], ◌∷◌, Err, IsOk, IfOk, OnOk, OnErr, IfErr, IfSome, length, take, vec_len};
 ghost use Rattle.dht_types.specs.declared.events.Event.{Event as AnEvent};
 ghost use Rattle.dht_types.specs.declared.lines.Line.{Line as ALine};
 ghost use Rattle.dht_types.specs.Faults.{HasFault};
-ghost use Rattle.dht_types.specs.Volume.{replay_names};
+ghost use Rattle.dht_types.specs.History.{history_of};
 ghost use Rattle.dht_membrick.specs.State.{mem_state};
-ghost use Rattle.dht_sched.specs.Schedule.{IsScheduledVolume};
+ghost use Rattle.dht_sched.specs.Schedule.{IsScheduled, IsScheduledVolume};
 ghost use Rattle.dht_sched.specs.Transcript.{lines_text, dump_lines_text, malformed_text, limit_text};
-ghost use Rattle.dht_world.specs.Bricks.{disk_of, journals_of, none_down, AreNewborn, AreReady};
 ghost use Rattle.dht_world.specs.Clients.{AreNewClients};
 ghost use Rattle.dht_world.specs.Following.{IsSpent};
-ghost use Rattle.dht_world.specs.Places.{IsAt};
-ghost use Rattle.dht_world.specs.World.{CanHappen};
+ghost use Rattle.dht_world.specs.Places.{IsAt, Adds};
 ghost use Rattle.dht_run.specs.Outside.{after_told, IsAtEnd};
 ghost use Rattle.dht_run.specs.LineReader.{Reader, input_of, HasNoNewline};
 ghost use Rattle.dht_run.specs.NextEvent.{CutsEvent, CutsVolume, HasNoEvent};
 ghost use Rattle.dht_run.specs.Replay.{IsAfterFirst, IsMalformed, EndsAs, dump_all, last_text};
 ghost use Rattle.dht_run.specs.declared.line_reader.TheConstants.{INPUT_LIMIT};
-ghost use Rattle.dht_run.specs.SoFar.{SoFar, EndsSo, Wrote, WroteInPart, Spends};
+ghost use Rattle.dht_run.specs.SoFar.{SoFar, EndsSo, IsInRemount, Wrote, WroteInPart, Spends};
 ghost use Rattle.dht_run.specs.Writes.{Writes};
 ghost use Rattle.dht_run.specs.Written.{IsEventCause};
 
+use crate::bricks::{NewBrick, first_bricks, fresh_bricks};
 use crate::ending::Ending;
 use crate::line_reader::{LineReader, Next};
 use crate::sink::{Sink, write_all};
@@ -37,7 +36,7 @@ use dht_section::caller::Caller;
 use dht_types::events::Event;
 use dht_types::identifiers::{BrickNo, CallNo, ClientNo};
 use dht_types::lines::{DumpLine, Line};
-use dht_types::volumes::{Volume, Weights};
+use dht_types::volumes::Weights;
 use dht_world::{Place, Stop, World};
 use std::alloc::{AllocError, Global};
 
@@ -151,8 +150,44 @@ fn next_event<S: Source>(
     }
 }
 
+/// Has the world carry out an event, that of this line of the schedule; its lines are appended.
+fn happen<B: NewBrick + Drop, C: Caller + Drop>(
+    alloc: Global,
+    world: &mut World<B, C>,
+    event: &Event,
+    line: u64,
+    out: &mut Vec<Line>,
+) -> Result<(), Stop>
+    requires may { IsScheduled event.now × IsAfterFirst event.now }
+    requires run { world.old.run + 1 < 2 ^ 32 }
+    requires few { world.old.lines + 3 < 2 ^ 64 }
+    requires at { (past : List ALine) × IsAt B.Brick C.Caller world.old past }
+    ensures ok { OnOk result ((past : List ALine)
+        → IsAt B.Brick C.Caller world.old past
+        → Adds B.Brick C.Caller world.old world.new line event.now past
+        out.old.items out.new.items) }
+    ensures limit { (past : List ALine)
+        → IsAt B.Brick C.Caller world.old past
+        → (result ≡ Err Stop.Limit) ↔ IsSpent (history_of past) event.now }
+    ensures err { OnErr result ((past : List ALine)
+        → IsAt B.Brick C.Caller world.old past
+        → IsAt B.Brick C.Caller world.new past
+        ⊎ ((result ≡ Err Stop.OutOfMemory)
+        × IsInRemount B.Brick C.Caller world.new event.now past)) }
+    ensures grows { world.new.lines ≤ world.old.lines + 3 }
+{
+    match event {
+        Event::Remount(weights) => {
+            let fresh = fresh_bricks(alloc, world, weights)?;
+            world.remount(alloc, weights, fresh, line, out)?;
+            Ok(())
+        }
+        _ => world.event(alloc, event, line, out),
+    }
+}
+
 /// Carries out an event, that of this line of the schedule, and writes its lines.
-fn carry_out<B: Brick, C: Caller + Drop, K: Sink>(
+fn carry_out<B: NewBrick + Drop, C: Caller + Drop, K: Sink>(
     alloc: Global,
     world: &mut World<B, C>,
     event: &Event,
@@ -160,7 +195,8 @@ fn carry_out<B: Brick, C: Caller + Drop, K: Sink>(
     sink: &mut K,
     output: &mut EventOutput,
 ) -> Result<(), Ending>
-    requires can { CanHappen event.now }
+    requires may { IsScheduled event.now × IsAfterFirst event.now }
+    requires run { world.old.run + 1 < 2 ^ 32 }
     requires few { world.old.lines + 3 < 2 ^ 64 }
     requires at { (past : List ALine) × IsAt B.Brick C.Caller world.old past }
     ensures ok { OnOk result ((past : List ALine)
@@ -170,7 +206,9 @@ fn carry_out<B: Brick, C: Caller + Drop, K: Sink>(
     ensures err { OnErr result ((past : List ALine)
         → IsAt B.Brick C.Caller world.old past
         → WroteInPart B.Brick C.Caller world.old world.new line
-        event.now past (K.taken sink.old) (K.taken sink.new)) }
+        event.now past (K.taken sink.old) (K.taken sink.new)
+        ⊎ ((result ≡ Err Ending.OutOfMemory) × (K.taken sink.new ≡ K.taken sink.old)
+        × IsInRemount B.Brick C.Caller world.new event.now past)) }
     ensures limit { result ≡ Err Ending.Limit → (past : List ALine)
         → IsAt B.Brick C.Caller world.old past
         → Spends B.Brick C.Caller world.new event.now past
@@ -181,7 +219,7 @@ fn carry_out<B: Brick, C: Caller + Drop, K: Sink>(
     ensures grows { world.new.lines ≤ world.old.lines + 3 }
 {
     output.lines.clear();
-    match world.event(alloc, event, line, &mut output.lines) {
+    match happen(alloc, world, event, line, &mut output.lines) {
         Ok(()) => output.write(sink),
         Err(Stop::Limit) => Err(Ending::Limit),
         Err(Stop::OutOfMemory) => Err(Ending::OutOfMemory),
@@ -201,7 +239,7 @@ fn is_volume(event: &Event) -> bool
 
 /// Carries out the events that come, `count` of them so far, until the input ends or something stops
 /// the run.
-fn go_on<B: Brick, C: Caller + Drop, S: Source, K: Sink>(
+fn go_on<B: NewBrick + Drop, C: Caller + Drop, S: Source, K: Sink>(
     alloc: Global,
     world: &mut World<B, C>,
     count: &mut u64,
@@ -308,8 +346,9 @@ fn write_last<B: Brick, K: Sink>(
 ) -> Result<(), Ending>
     requires few { count ≤ INPUT_LIMIT }
     requires bricks { length bricks.now ≤ 32 }
-    ensures { Writes K.Sink sink.old sink.new
+    ensures written { Writes K.Sink sink.old sink.new
         (last_text B.state bricks.now (count + 1) ending) result }
+    ensures none { ending ≡ Ending.OutOfMemory → IsOk result }
 {
     match ending {
         Ending::Done => write_dump(alloc, bricks, sink),
@@ -345,7 +384,7 @@ fn finish<B: Brick, C: Caller, K: Sink>(
 }
 
 /// Replays a schedule behind its first line, that of a volume with these weights.
-fn play<B: Brick, C: Caller + Drop, S: Source, K: Sink>(
+fn play<B: NewBrick + Drop, C: Caller + Drop, S: Source, K: Sink>(
     alloc: Global,
     weights: Weights,
     world: &mut World<B, C>,
@@ -372,42 +411,6 @@ fn play<B: Brick, C: Caller + Drop, S: Source, K: Sink>(
     let mut count = 1;
     let ending = go_on(alloc, world, &mut count, reader, source, sink, &mut output);
     finish(alloc, ending, world, count, sink)
-}
-
-/// The bricks of this volume, all new: each has its number and the root with its planned range,
-/// knows the volume, and does not fail.
-fn new_bricks(alloc: Global, volume: &Volume) -> Result<Vec<MemBrick>, AllocError>
-    ensures count { IfOk result (λ v. vec_len v ≡ length volume.now.names) }
-    ensures newborn { IfOk result (λ v.
-        AreNewborn volume.now.weights (disk_of mem_state v.items) (journals_of mem_state v.items)) }
-    ensures ready { volume.now.names ≡ replay_names (length volume.now.names)
-        → IfOk result (λ v.
-        AreReady mem_state volume.now.weights volume.now.run none_down v.items) }
-{
-    let mut bricks = Vec::new(alloc);
-    for number in 0..volume.bricks() {
-        bricks.push(MemBrick::new(alloc, volume, BrickNo(number), true)?)?;
-    }
-    Ok(bricks)
-}
-
-/// The bricks of a new volume of these weights, in the first run. The root has its planned range on
-/// each.
-fn bricks_of(alloc: Global, weights: &Weights) -> Result<Vec<MemBrick>, Ending>
-    requires volume { IsScheduledVolume weights.now }
-    ensures count { IfOk result (λ v. vec_len v ≡ length weights.now) }
-    ensures newborn { IfOk result (λ v.
-        AreNewborn weights.now (disk_of mem_state v.items) (journals_of mem_state v.items)) }
-    ensures ready { IfOk result (λ v. AreReady mem_state weights.now 1 none_down v.items) }
-    ensures memory { OnErr result (result ≡ Err Ending.OutOfMemory) }
-{
-    let Ok(volume) = Volume::replay(alloc, weights, 1) else {
-        return Err(Ending::OutOfMemory);
-    };
-    match new_bricks(alloc, &volume) {
-        Ok(bricks) => Ok(bricks),
-        Err(_) => Err(Ending::OutOfMemory),
-    }
 }
 
 /// The clients of a new world, all idle: each has its place as its number.
@@ -472,7 +475,7 @@ fn replay_volume<S: Source, K: Sink>(
         → HasFault (S.faults source.old) (S.faults source.new) }
     ensures sink { result ≡ Ending.SinkFailed → HasFault (K.faults sink.old) (K.faults sink.new) }
 {
-    let Ok(made) = bricks_of(alloc, &weights) else {
+    let Ok(made) = first_bricks::<MemBrick>(alloc, &weights) else {
         return Ending::OutOfMemory;
     };
     let Ok(shown) = weights.copied(alloc) else {

@@ -8,7 +8,7 @@ ghost use Rattle.dht_run.specs.Outside.{after_told};
 ghost use Rattle.dht_run.specs.Written.{TakesPrefix};
 ghost use Rattle.dht_run.specs.Commands.{hash_text, layout_text, IsPrinted};
 ghost use Rattle.dht_run.specs.Program.{IsReplay, IsHash, IsLayout, IsCommand, IsStatus};
-ghost use Rattle.dht_run.specs.Replay.{EndsAs, IsDone, StopsAtLine, StopsAtLimit, StopsAtSource, IsCutShort, IsWhole};
+ghost use Rattle.dht_run.specs.Replay.{EndsAs, IsDone, StopsAtLine, StopsAtLimit, StopsAtSource, IsCutShort, IsCutInRemount, IsWhole};
 ghost use Rattle.dht_run.specs.Status.{status_of};
 
 use crate::commands::{print_hashes, print_layout};
@@ -116,8 +116,13 @@ pub fn run<S: Source, K: Sink>(
     ensures limit { IsReplay words.now → result ≡ 7
         → StopsAtLimit mem_state shelf.new.mem.items (S.left source.old)
         (K.taken sink.old) (K.taken sink.new) }
-    ensures cut_short { IsReplay words.now → (result ≡ 5) ⊎ (result ≡ 6)
+    ensures cut_short { IsReplay words.now → result ≡ 5
         → IsCutShort mem_state shelf.new.mem.items (S.left source.old)
+        (K.taken sink.old) (K.taken sink.new) }
+    ensures out_of_memory { IsReplay words.now → result ≡ 6
+        → IsCutShort mem_state shelf.new.mem.items (S.left source.old)
+        (K.taken sink.old) (K.taken sink.new)
+        ⊎ IsCutInRemount mem_state shelf.new.mem.items (S.left source.old)
         (K.taken sink.old) (K.taken sink.new) }
 
     // A text that is a schedule's whole is not refused.

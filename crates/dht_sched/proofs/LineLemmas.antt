@@ -11,14 +11,14 @@ use Rattle.dht_types.specs.declared.calls.Call.{Call}
 use Rattle.dht_types.specs.declared.calls.Call.TheVariants.{Lookup, Create, Unlink}
 use Rattle.dht_types.specs.declared.events.Directory.{Directory}
 use Rattle.dht_types.specs.declared.events.Event.{Event}
-use Rattle.dht_types.specs.declared.events.Event.TheVariants.{Volume, Call as Called, Step, Down, Up, Die}
+use Rattle.dht_types.specs.declared.events.Event.TheVariants.{Volume, Remount, Call as Called, Step, Down, Up, Die}
 use Rattle.dht_sched.specs.declared.fault.LineFault.{LineFault}
 use Rattle.dht_sched.specs.declared.fault.LineFault.TheVariants.{Malformed, OutOfMemory}
 use Rattle.dht_sched.specs.Reading.{Reads, ReadsUnless}
 use Rattle.dht_types.specs.Volume.{HasWeight}
 use Rattle.dht_sched.specs.Kinds.{verb_word}
 use Rattle.dht_sched.specs.Schedule.{call_words, schedule_words, schedule_text, IsShort, IsScheduled, IsScheduledVolume, IsScheduledCall, TakesMemory, IsReadOf, IsOneLine}
-use Rattle.dht_sched.specs.Spelling.{spaced, words_of}
+use Rattle.dht_sched.specs.Spelling.{bricks_words, spaced, words_of}
 use Rattle.dht_sched.proofs.DirectoryLemmas.{directory_is_word, same_directory}
 use Rattle.dht_sched.proofs.NameLemmas.{same_name, name_word}
 use Rattle.dht_sched.proofs.NumberLemmas.{decimal_word}
@@ -67,12 +67,13 @@ call_words_are c call h = (refl, (decimal_word c h.client, (verb_is_word call, (
 number_words_are : (word : List ℕ) (c : ℕ) → IsWord word → c < 2 ^ 64 → AllByRecursion IsWord (word ∷ decimal c ∷ [])
 number_words_are word c h small = (h, (decimal_word c small, tt))
 
-volume_words_are : (w : List ℕ) → IsScheduledVolume w → AllByRecursion IsWord (codes "volume" ∷ decimal (length w) ∷ map decimal w)
-volume_words_are w h = let few = h.few in (refl, (decimal_word (length w) (omega arith), weight_words w (recursion_from_All IsLight w h.light)))
+bricks_words_are : (word w : List ℕ) → IsWord word → IsScheduledVolume w → AllByRecursion IsWord (word ∷ bricks_words w)
+bricks_words_are word w first h = let few = h.few in (first, (decimal_word (length w) (omega arith), weight_words w (recursion_from_All IsLight w h.light)))
 
 -- a line has the words of its event
 pub words_of_text : (e : Event) → IsScheduled e → words_of (schedule_text e) ≡ schedule_words e
-words_of_text (Volume w) h = words_of-spaced (codes "volume") (decimal (length w) ∷ map decimal w) (volume_words_are w h)
+words_of_text (Volume w) h = words_of-spaced (codes "volume") (bricks_words w) (bricks_words_are (codes "volume") w refl h)
+words_of_text (Remount w) h = words_of-spaced (codes "remount") (bricks_words w) (bricks_words_are (codes "remount") w refl h)
 words_of_text (Called c call) h = words_of-spaced (codes "call") (decimal c ∷ call_words call) (call_words_are c call h)
 words_of_text (Step x) h = words_of-spaced (codes "step") (decimal x ∷ []) (number_words_are (codes "step") x refl h)
 words_of_text (Down x) h = words_of-spaced (codes "down") (decimal x ∷ []) (number_words_are (codes "down") x refl h)
@@ -91,12 +92,16 @@ one_line_of words h few = record { one = no_newline words h; short = (let size =
 number_line : (word : List ℕ) (c : ℕ) → IsWord word → length word ≤ 4 → c < 2 ^ 64 → IsOneLine (spaced (word ∷ decimal c ∷ []))
 number_line word c h short small = let digits = length-number c small in one_line_of (word ∷ decimal c ∷ []) (number_words_are word c h small) (omega arith)
 
-pub event_line : (e : Event) → IsScheduled e → IsOneLine (schedule_text e)
-event_line (Volume w) h =
+bricks_line : (word w : List ℕ) → IsWord word → length word ≤ 7 → IsScheduledVolume w → IsOneLine (spaced (word ∷ bricks_words w))
+bricks_line word w first short h =
     let few = h.few in
     let bricks = length-decimal (length w) (omega arith) in
     let weights = length-weights w (recursion_from_All IsLight w h.light) in
-    one_line_of (codes "volume" ∷ decimal (length w) ∷ map decimal w) (volume_words_are w h) (omega arith)
+    one_line_of (word ∷ bricks_words w) (bricks_words_are word w first h) (omega arith)
+
+pub event_line : (e : Event) → IsScheduled e → IsOneLine (schedule_text e)
+event_line (Volume w) h = bricks_line (codes "volume") w refl (omega arith) h
+event_line (Remount w) h = bricks_line (codes "remount") w refl (omega arith) h
 event_line (Called c call) h = record { one = no_newline (schedule_words (Called c call)) (call_words_are c call h); short = h.short }
 event_line (Step x) h = number_line (codes "step") x refl (omega arith) h
 event_line (Down x) h = number_line (codes "down") x refl (omega arith) h
@@ -135,38 +140,54 @@ call_by_words c x e y hx hy same =
     let name = same_name (name_of x) (name_of y) hx.name hy.name (cc same) in
     (decimal_injective c e hx.client hy.client (cc same), same_call x y (cc same) directory name)
 
+same_bricks : (v w : List ℕ) → IsScheduledVolume v → IsScheduledVolume w → map decimal v ≡ map decimal w → v ≡ w
+same_bricks v w hv hw same = same_weights v w (recursion_from_All IsLight v hv.light) (recursion_from_All IsLight w hw.light) same
+
 pub same_event : (a b : Event) → IsScheduled a → IsScheduled b → schedule_words a ≡ schedule_words b → a ≡ b
-same_event (Volume v) (Volume w) ha hb same = ap Volume (same_weights v w (recursion_from_All IsLight v ha.light) (recursion_from_All IsLight w hb.light) (cc same))
+same_event (Volume v) (Volume w) ha hb same = ap Volume (same_bricks v w ha hb (cc same))
+same_event (Volume x) (Remount y) ha hb same = absurd (let letters : 118 ≡ 114 = ap kind same in omega arith)
 same_event (Volume x) (Called y ycall) ha hb same = absurd (let letters : 118 ≡ 99 = ap kind same in omega arith)
 same_event (Volume x) (Step y) ha hb same = absurd (let letters : 118 ≡ 115 = ap kind same in omega arith)
 same_event (Volume x) (Down y) ha hb same = absurd (let letters : 118 ≡ 100 = ap kind same in omega arith)
 same_event (Volume x) (Up y) ha hb same = absurd (let letters : 118 ≡ 117 = ap kind same in omega arith)
 same_event (Volume x) (Die y) ha hb same = absurd (let letters : 118 ≡ 100 = ap kind same in omega arith)
+same_event (Remount x) (Volume y) ha hb same = absurd (let letters : 114 ≡ 118 = ap kind same in omega arith)
+same_event (Remount v) (Remount w) ha hb same = ap Remount (same_bricks v w ha hb (cc same))
+same_event (Remount x) (Called y ycall) ha hb same = absurd (let letters : 114 ≡ 99 = ap kind same in omega arith)
+same_event (Remount x) (Step y) ha hb same = absurd (let letters : 114 ≡ 115 = ap kind same in omega arith)
+same_event (Remount x) (Down y) ha hb same = absurd (let letters : 114 ≡ 100 = ap kind same in omega arith)
+same_event (Remount x) (Up y) ha hb same = absurd (let letters : 114 ≡ 117 = ap kind same in omega arith)
+same_event (Remount x) (Die y) ha hb same = absurd (let letters : 114 ≡ 100 = ap kind same in omega arith)
 same_event (Called x xcall) (Volume y) ha hb same = absurd (let letters : 99 ≡ 118 = ap kind same in omega arith)
+same_event (Called x xcall) (Remount y) ha hb same = absurd (let letters : 99 ≡ 114 = ap kind same in omega arith)
 same_event (Called b x) (Called c y) ha hb same = let p = call_by_words b x c y ha hb (cc same) in let same_client = p.0 in let same_words = p.1 in cc
 same_event (Called x xcall) (Step y) ha hb same = absurd (let letters : 99 ≡ 115 = ap kind same in omega arith)
 same_event (Called x xcall) (Down y) ha hb same = absurd (let letters : 99 ≡ 100 = ap kind same in omega arith)
 same_event (Called x xcall) (Up y) ha hb same = absurd (let letters : 99 ≡ 117 = ap kind same in omega arith)
 same_event (Called x xcall) (Die y) ha hb same = absurd (let letters : 99 ≡ 100 = ap kind same in omega arith)
 same_event (Step x) (Volume y) ha hb same = absurd (let letters : 115 ≡ 118 = ap kind same in omega arith)
+same_event (Step x) (Remount y) ha hb same = absurd (let letters : 115 ≡ 114 = ap kind same in omega arith)
 same_event (Step x) (Called y ycall) ha hb same = absurd (let letters : 115 ≡ 99 = ap kind same in omega arith)
 same_event (Step x) (Step y) ha hb same = ap Step (decimal_injective x y ha hb (cc same))
 same_event (Step x) (Down y) ha hb same = absurd (let letters : 115 ≡ 100 = ap kind same in omega arith)
 same_event (Step x) (Up y) ha hb same = absurd (let letters : 115 ≡ 117 = ap kind same in omega arith)
 same_event (Step x) (Die y) ha hb same = absurd (let letters : 115 ≡ 100 = ap kind same in omega arith)
 same_event (Down x) (Volume y) ha hb same = absurd (let letters : 100 ≡ 118 = ap kind same in omega arith)
+same_event (Down x) (Remount y) ha hb same = absurd (let letters : 100 ≡ 114 = ap kind same in omega arith)
 same_event (Down x) (Called y ycall) ha hb same = absurd (let letters : 100 ≡ 99 = ap kind same in omega arith)
 same_event (Down x) (Step y) ha hb same = absurd (let letters : 100 ≡ 115 = ap kind same in omega arith)
 same_event (Down x) (Down y) ha hb same = ap Down (decimal_injective x y ha hb (cc same))
 same_event (Down x) (Up y) ha hb same = absurd (let letters : 100 ≡ 117 = ap kind same in omega arith)
 same_event (Down x) (Die y) ha hb same = absurd (let letters : 111 ≡ 105 = ap second same in omega arith)
 same_event (Up x) (Volume y) ha hb same = absurd (let letters : 117 ≡ 118 = ap kind same in omega arith)
+same_event (Up x) (Remount y) ha hb same = absurd (let letters : 117 ≡ 114 = ap kind same in omega arith)
 same_event (Up x) (Called y ycall) ha hb same = absurd (let letters : 117 ≡ 99 = ap kind same in omega arith)
 same_event (Up x) (Step y) ha hb same = absurd (let letters : 117 ≡ 115 = ap kind same in omega arith)
 same_event (Up x) (Down y) ha hb same = absurd (let letters : 117 ≡ 100 = ap kind same in omega arith)
 same_event (Up x) (Up y) ha hb same = ap Up (decimal_injective x y ha hb (cc same))
 same_event (Up x) (Die y) ha hb same = absurd (let letters : 117 ≡ 100 = ap kind same in omega arith)
 same_event (Die x) (Volume y) ha hb same = absurd (let letters : 100 ≡ 118 = ap kind same in omega arith)
+same_event (Die x) (Remount y) ha hb same = absurd (let letters : 100 ≡ 114 = ap kind same in omega arith)
 same_event (Die x) (Called y ycall) ha hb same = absurd (let letters : 100 ≡ 99 = ap kind same in omega arith)
 same_event (Die x) (Step y) ha hb same = absurd (let letters : 100 ≡ 115 = ap kind same in omega arith)
 same_event (Die x) (Down y) ha hb same = absurd (let letters : 105 ≡ 111 = ap second same in omega arith)
@@ -190,18 +211,24 @@ read_malformed line r h bad e fits same =
 
 out_of_memory : (e : Event) → TakesMemory (schedule_words e) → IsReadOf e (Err OutOfMemory)
 out_of_memory (Volume w) h = inr refl
+out_of_memory (Remount w) h = inr refl
 out_of_memory (Called c call) h = inr refl
 out_of_memory (Step c) (rest, inl same) = absurd (let letters : 115 ≡ 118 = ap kind same in omega arith)
-out_of_memory (Step c) (rest, inr same) = absurd (let letters : 115 ≡ 99 = ap kind same in omega arith)
+out_of_memory (Step c) (rest, inr (inl same)) = absurd (let letters : 115 ≡ 114 = ap kind same in omega arith)
+out_of_memory (Step c) (rest, inr (inr same)) = absurd (let letters : 115 ≡ 99 = ap kind same in omega arith)
 out_of_memory (Down b) (rest, inl same) = absurd (let letters : 100 ≡ 118 = ap kind same in omega arith)
-out_of_memory (Down b) (rest, inr same) = absurd (let letters : 100 ≡ 99 = ap kind same in omega arith)
+out_of_memory (Down b) (rest, inr (inl same)) = absurd (let letters : 100 ≡ 114 = ap kind same in omega arith)
+out_of_memory (Down b) (rest, inr (inr same)) = absurd (let letters : 100 ≡ 99 = ap kind same in omega arith)
 out_of_memory (Up b) (rest, inl same) = absurd (let letters : 117 ≡ 118 = ap kind same in omega arith)
-out_of_memory (Up b) (rest, inr same) = absurd (let letters : 117 ≡ 99 = ap kind same in omega arith)
+out_of_memory (Up b) (rest, inr (inl same)) = absurd (let letters : 117 ≡ 114 = ap kind same in omega arith)
+out_of_memory (Up b) (rest, inr (inr same)) = absurd (let letters : 117 ≡ 99 = ap kind same in omega arith)
 out_of_memory (Die c) (rest, inl same) = absurd (let letters : 100 ≡ 118 = ap kind same in omega arith)
-out_of_memory (Die c) (rest, inr same) = absurd (let letters : 100 ≡ 99 = ap kind same in omega arith)
+out_of_memory (Die c) (rest, inr (inl same)) = absurd (let letters : 100 ≡ 114 = ap kind same in omega arith)
+out_of_memory (Die c) (rest, inr (inr same)) = absurd (let letters : 100 ≡ 99 = ap kind same in omega arith)
 
 is_read : (e : Event) → IsReadOf e (Ok e)
 is_read (Volume w) = inl refl
+is_read (Remount w) = inl refl
 is_read (Called c call) = inl refl
 is_read (Step c) = refl
 is_read (Down b) = refl
@@ -235,6 +262,7 @@ reads_or words (Some e) result is h = rw is h
 -- words that are no call's
 pub no_call : (words : List (List ℕ)) → ((c : ℕ) (call : Call Directory) → IsScheduledCall c call → words ≢ decimal c ∷ call_words call) → (e : Event) → IsScheduled e → schedule_words e ≢ codes "call" ∷ words
 no_call words none (Volume w) h same = absurd (let letters : 118 ≡ 99 = ap kind same in omega arith)
+no_call words none (Remount w) h same = absurd (let letters : 114 ≡ 99 = ap kind same in omega arith)
 no_call words none (Called c call) h same = none c call h (cc same)
 no_call words none (Step c) h same = absurd (let letters : 115 ≡ 99 = ap kind same in omega arith)
 no_call words none (Down b) h same = absurd (let letters : 100 ≡ 99 = ap kind same in omega arith)
@@ -247,15 +275,43 @@ none_left words rest None h e = h.0
 none_left words rest (Some x) h e = absurd (false≢true (sym e))
 
 -- weights that are none of a volume
-pub no_volume : (words others : List (List ℕ)) (bricks : ℕ) (word : List ℕ) (w : List ℕ) → words ≡ word ∷ others → bricks < 2 ^ 64 → decimal bricks ≡ word → All IsLight w → map decimal w ≡ others
-    → (bricks ≡ length w → (1 ≤ length w) × (length w ≤ 32) × HasWeight w → ⊥) → (e : Event) → IsScheduled e → schedule_words e ≢ codes "volume" ∷ words
-no_volume words others bricks word w e small text light weights none (Volume v) h same =
+pub no_bricks : (words others : List (List ℕ)) (bricks : ℕ) (word : List ℕ) (w : List ℕ) → words ≡ word ∷ others → bricks < 2 ^ 64 → decimal bricks ≡ word → All IsLight w → map decimal w ≡ others
+    → (bricks ≡ length w → (1 ≤ length w) × (length w ≤ 32) × HasWeight w → ⊥) → (v : List ℕ) → IsScheduledVolume v → bricks_words v ≢ words
+no_bricks words others bricks word w e small text light weights none v h same =
     let few = h.few in
     let v_is : v ≡ w = same_weights v w (recursion_from_All IsLight v h.light) (recursion_from_All IsLight w light) (cc (same, e, weights)) in
     let size : length v ≡ bricks = decimal_injective (length v) bricks (omega arith) small (cc (same, e, text)) in
     none (sym size ∙ ap length v_is) (subst (λ (x : List ℕ). (1 ≤ length x) × (length x ≤ 32) × HasWeight x) v_is (h.some, few, h.heavy))
-no_volume words others bricks word w e small text light weights none (Called x xcall) h same = absurd (let letters : 99 ≡ 118 = ap kind same in omega arith)
-no_volume words others bricks word w e small text light weights none (Step x) h same = absurd (let letters : 115 ≡ 118 = ap kind same in omega arith)
-no_volume words others bricks word w e small text light weights none (Down x) h same = absurd (let letters : 100 ≡ 118 = ap kind same in omega arith)
-no_volume words others bricks word w e small text light weights none (Up x) h same = absurd (let letters : 117 ≡ 118 = ap kind same in omega arith)
-no_volume words others bricks word w e small text light weights none (Die x) h same = absurd (let letters : 100 ≡ 118 = ap kind same in omega arith)
+
+-- words that are no volume's, and no remount's
+abbrev IsNoBricks : List (List ℕ) → Type 0
+IsNoBricks words = (v : List ℕ) → IsScheduledVolume v → bricks_words v ≢ words
+
+pub no_volume : (words : List (List ℕ)) → IsNoBricks words → (e : Event) → IsScheduled e → schedule_words e ≢ codes "volume" ∷ words
+no_volume words none (Volume w) h same = none w h (cc same)
+no_volume words none (Remount w) h same = absurd (let letters : 114 ≡ 118 = ap kind same in omega arith)
+no_volume words none (Called c call) h same = absurd (let letters : 99 ≡ 118 = ap kind same in omega arith)
+no_volume words none (Step c) h same = absurd (let letters : 115 ≡ 118 = ap kind same in omega arith)
+no_volume words none (Down b) h same = absurd (let letters : 100 ≡ 118 = ap kind same in omega arith)
+no_volume words none (Up b) h same = absurd (let letters : 117 ≡ 118 = ap kind same in omega arith)
+no_volume words none (Die c) h same = absurd (let letters : 100 ≡ 118 = ap kind same in omega arith)
+
+pub no_remount : (words : List (List ℕ)) → IsNoBricks words → (e : Event) → IsScheduled e → schedule_words e ≢ codes "remount" ∷ words
+no_remount words none (Volume w) h same = absurd (let letters : 118 ≡ 114 = ap kind same in omega arith)
+no_remount words none (Remount w) h same = none w h (cc same)
+no_remount words none (Called c call) h same = absurd (let letters : 99 ≡ 114 = ap kind same in omega arith)
+no_remount words none (Step c) h same = absurd (let letters : 115 ≡ 114 = ap kind same in omega arith)
+no_remount words none (Down b) h same = absurd (let letters : 100 ≡ 114 = ap kind same in omega arith)
+no_remount words none (Up b) h same = absurd (let letters : 117 ≡ 114 = ap kind same in omega arith)
+no_remount words none (Die c) h same = absurd (let letters : 100 ≡ 114 = ap kind same in omega arith)
+
+-- words whose first is none of an event's
+pub no_first : (words rest : List (List ℕ)) (kind : List ℕ) → words ≡ kind ∷ rest → kind ≢ codes "volume" → kind ≢ codes "remount" → kind ≢ codes "call" → kind ≢ codes "step" → kind ≢ codes "down" → kind ≢ codes "up" → kind ≢ codes "die"
+    → (e : Event) → IsScheduled e → schedule_words e ≢ words
+no_first words rest kind starts volume remount call step down up die (Volume w) h same = volume (cc (same, starts))
+no_first words rest kind starts volume remount call step down up die (Remount w) h same = remount (cc (same, starts))
+no_first words rest kind starts volume remount call step down up die (Called c x) h same = call (cc (same, starts))
+no_first words rest kind starts volume remount call step down up die (Step c) h same = step (cc (same, starts))
+no_first words rest kind starts volume remount call step down up die (Down b) h same = down (cc (same, starts))
+no_first words rest kind starts volume remount call step down up die (Up b) h same = up (cc (same, starts))
+no_first words rest kind starts volume remount call step down up die (Die c) h same = die (cc (same, starts))

@@ -1,5 +1,5 @@
 -- The lines of a schedule: the text of an event, and which events have a line.
-use Rattle.std.specs.Prelude.{ℕ, ◌^◌, ◌≡◌, ◌≤◌, ◌<◌, ◌⊎◌, List, [], ◌∷◌, ◌++◌, length, map, codes, decimal, All, Contains, Result, Ok, Err}
+use Rattle.std.specs.Prelude.{ℕ, ◌^◌, ◌≡◌, ◌≤◌, ◌<◌, ◌⊎◌, List, [], ◌∷◌, ◌++◌, length, codes, decimal, All, Contains, Result, Ok, Err}
 use Rattle.dht_types.specs.Calls.{directory_of, name_of}
 use Rattle.dht_types.specs.Text.{gfid_text}
 use Rattle.dht_types.specs.Volume.{HasWeight}
@@ -7,11 +7,11 @@ use Rattle.dht_types.specs.declared.calls.Call.{Call}
 use Rattle.dht_types.specs.declared.events.Directory.{Directory}
 use Rattle.dht_types.specs.declared.events.Directory.TheVariants.{Root, OfCall, Gfid as OfGfid}
 use Rattle.dht_types.specs.declared.events.Event.{Event}
-use Rattle.dht_types.specs.declared.events.Event.TheVariants.{Volume, Call as Called, Step, Down, Up, Die}
+use Rattle.dht_types.specs.declared.events.Event.TheVariants.{Volume, Remount, Call as Called, Step, Down, Up, Die}
 use Rattle.dht_sched.specs.declared.fault.LineFault.{LineFault}
 use Rattle.dht_sched.specs.declared.fault.LineFault.TheVariants.{OutOfMemory}
 use Rattle.dht_sched.specs.Kinds.{verb_word}
-use Rattle.dht_sched.specs.Spelling.{AreBytes, spaced, spelled}
+use Rattle.dht_sched.specs.Spelling.{AreBytes, bricks_words, spaced, spelled}
 
 -- a directory: `@` for the root, `@` and a call's number for what the call answered, or its gfid
 abbrev pub directory_word : Directory → List ℕ
@@ -23,7 +23,8 @@ abbrev pub call_words : Call Directory → List (List ℕ)
 call_words call = verb_word call ∷ directory_word (directory_of call) ∷ spelled (name_of call) ∷ []
 
 abbrev pub schedule_words : Event → List (List ℕ)
-schedule_words (Volume w) = codes "volume" ∷ decimal (length w) ∷ map decimal w
+schedule_words (Volume w) = codes "volume" ∷ bricks_words w
+schedule_words (Remount w) = codes "remount" ∷ bricks_words w
 schedule_words (Called c call) = codes "call" ∷ decimal c ∷ call_words call
 schedule_words (Step c) = codes "step" ∷ decimal c ∷ []
 schedule_words (Down b) = codes "down" ∷ decimal b ∷ []
@@ -61,6 +62,7 @@ pub record IsScheduledCall (c : ℕ) (call : Call Directory) : Type 0 where
 -- the events that have a line. Whether there is such a client or brick is not asked
 abbrev pub IsScheduled : Event → Type 0
 IsScheduled (Volume w) = IsScheduledVolume w
+IsScheduled (Remount w) = IsScheduledVolume w
 IsScheduled (Called c call) = IsScheduledCall c call
 IsScheduled (Step c) = c < 2 ^ 64
 IsScheduled (Down b) = b < 2 ^ 64
@@ -69,12 +71,14 @@ IsScheduled (Die c) = c < 2 ^ 64
 
 -- the words of the lines whose reading takes memory: a volume's weights, and a call's name
 abbrev pub TakesMemory : List (List ℕ) → Type 0
-TakesMemory words =
-    (rest : List (List ℕ)) × ((words ≡ codes "volume" ∷ rest) ⊎ (words ≡ codes "call" ∷ rest))
+TakesMemory words = (rest : List (List ℕ))
+    × ((words ≡ codes "volume" ∷ rest) ⊎ (words ≡ codes "remount" ∷ rest)
+    ⊎ (words ≡ codes "call" ∷ rest))
 
 -- what reading the line of an event gives: the event, where there is memory for it
 abbrev pub IsReadOf : Event → Result Event LineFault → Type 0
 IsReadOf (Volume w) r = (r ≡ Ok (Volume w)) ⊎ (r ≡ Err OutOfMemory)
+IsReadOf (Remount w) r = (r ≡ Ok (Remount w)) ⊎ (r ≡ Err OutOfMemory)
 IsReadOf (Called c call) r = (r ≡ Ok (Called c call)) ⊎ (r ≡ Err OutOfMemory)
 IsReadOf (Step c) r = r ≡ Ok (Step c)
 IsReadOf (Down b) r = r ≡ Ok (Down b)

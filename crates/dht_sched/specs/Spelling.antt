@@ -1,5 +1,5 @@
 -- How words and names are spelled in a line.
-use Rattle.std.specs.Prelude.{ℕ, Bool, ◌/◌, ◌%◌, ◌==◌, ◌<◌, ◌&&◌, not, nat_le, if◌then◌else◌, Option, Some, None, List, [], ◌∷◌, codes, All}
+use Rattle.std.specs.Prelude.{ℕ, Bool, ◌/◌, ◌%◌, ◌==◌, ◌<◌, ◌&&◌, not, nat_le, if◌then◌else◌, Option, Some, None, List, [], ◌∷◌, length, map, codes, decimal, All}
 use Rattle.std.specs.List.{flat_map, join_with_byte, slice_split}
 use Rattle.dht_types.specs.Text.{hex_digit}
 
@@ -15,6 +15,10 @@ words_of line = slice_split (λ b. b == 32) line
 abbrev pub words_left : Option (List ℕ) → List (List ℕ)
 words_left None = []
 words_left (Some rest) = words_of rest
+
+-- the bricks of a volume: how many there are, and the weight of each
+abbrev pub bricks_words : List ℕ → List (List ℕ)
+bricks_words w = decimal (length w) ∷ map decimal w
 
 -- a byte that stands for itself in a name: it prints, and is no space and no `%`
 abbrev pub is_plain : ℕ → Bool

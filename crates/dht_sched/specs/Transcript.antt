@@ -1,5 +1,5 @@
 -- The lines of a transcript, each with its newline.
-use Rattle.std.specs.Prelude.{ℕ, Option, Some, None, List, [], ◌∷◌, ◌++◌, length, map, codes, decimal}
+use Rattle.std.specs.Prelude.{ℕ, Option, Some, None, List, [], ◌∷◌, ◌++◌, codes, decimal}
 use Rattle.std.specs.List.{flat_map}
 use Rattle.dht_types.specs.Calls.{directory_of, name_of}
 use Rattle.dht_types.specs.Errno.{errno_word}
@@ -11,13 +11,13 @@ use Rattle.dht_types.specs.declared.calls.Answer.TheVariants.{File, Dir, Made, D
 use Rattle.dht_types.specs.declared.calls.TreeStep.{TreeStep}
 use Rattle.dht_types.specs.declared.calls.TreeStep.TheVariants.{AddFile, RemoveFile}
 use Rattle.dht_types.specs.declared.lines.Cause.{Cause}
-use Rattle.dht_types.specs.declared.lines.Cause.TheVariants.{Unknown, Dead, Busy, Idle, Answer as OfAnswer}
+use Rattle.dht_types.specs.declared.lines.Cause.TheVariants.{Unknown, Dead, Busy, Idle, Answer as OfAnswer, Open, Fewer}
 use Rattle.dht_types.specs.declared.lines.Line.{Line}
-use Rattle.dht_types.specs.declared.lines.Line.TheVariants.{Volume, Called, Stepped, Waited, Tree, Answered, WentDown, CameUp, Died, Refused}
+use Rattle.dht_types.specs.declared.lines.Line.TheVariants.{Volume, Remounted, Called, Stepped, Waited, Tree, Answered, WentDown, CameUp, Died, Refused}
 use Rattle.dht_types.specs.declared.lines.DumpLine.{DumpLine}
 use Rattle.dht_sched.specs.Dump.{dump_words}
 use Rattle.dht_sched.specs.Kinds.{verb_word, request_word, reply_word}
-use Rattle.dht_sched.specs.Spelling.{spaced, spelled}
+use Rattle.dht_sched.specs.Spelling.{bricks_words, spaced, spelled}
 
 -- the line of these words
 abbrev pub text_of : List (List ℕ) → List ℕ
@@ -48,9 +48,12 @@ cause_word Dead = codes "dead"
 cause_word Busy = codes "busy"
 cause_word Idle = codes "idle"
 cause_word OfAnswer = codes "answer"
+cause_word Open = codes "open"
+cause_word Fewer = codes "fewer"
 
 abbrev pub line_words : Line → List (List ℕ)
-line_words (Volume w) = codes "volume" ∷ decimal (length w) ∷ map decimal w
+line_words (Volume w) = codes "volume" ∷ bricks_words w
+line_words (Remounted w) = codes "remount" ∷ bricks_words w
 line_words (Called k c call) = codes "call" ∷ decimal k.0 ∷ decimal c.0 ∷ called_words call
 line_words (Stepped k c b q r) = codes "step" ∷ decimal k.0 ∷ decimal c.0 ∷ decimal b.0 ∷ request_word q ∷ reply_word r ∷ []
 line_words (Waited k c b holder) = codes "wait" ∷ decimal k.0 ∷ decimal c.0 ∷ decimal b.0 ∷ decimal holder.0 ∷ []

@@ -4,8 +4,8 @@ ghost use Rattle.std.specs.Prelude.{◌≡◌, ◌≢◌, ◌≤◌, ◌<◌, �
 ghost use Rattle.dht_types.specs.declared.events.Event.{Event};
 ghost use Rattle.dht_sched.specs.Reading.{Reads, ReadsUnless};
 ghost use Rattle.dht_types.specs.Volume.{HasWeight};
-ghost use Rattle.dht_sched.specs.Schedule.{schedule_words, schedule_text, IsShort, IsScheduled, TakesMemory, IsReadOf, IsOneLine};
-ghost use Rattle.dht_sched.specs.Spelling.{spaced, words_of};
+ghost use Rattle.dht_sched.specs.Schedule.{schedule_words, schedule_text, IsShort, IsScheduled, IsScheduledVolume, TakesMemory, IsReadOf, IsOneLine};
+ghost use Rattle.dht_sched.specs.Spelling.{bricks_words, spaced, words_of};
 
 use crate::calls::read_call;
 use crate::fault::LineFault;
@@ -97,9 +97,9 @@ pub fn is_volume(weights: &[u16]) -> bool
     1 <= bricks && bricks <= MOST_BRICKS && is_heavy
 }
 
-/// The event of a line that begins with `volume`, by its other words.
-fn read_volume(alloc: Global, mut words: Words<'_>) -> Result<Event, LineFault>
-    ensures { ReadsUnless schedule_words IsScheduled (codes "volume" ∷ words.entry) result }
+/// The weights of a volume's bricks, by how many there are and the weight of each.
+fn read_bricks(alloc: Global, mut words: Words<'_>) -> Result<Weights, LineFault>
+    ensures { ReadsUnless bricks_words IsScheduledVolume words.entry result }
 {
     let Some(word) = words.next() else {
         return Err(LineFault::Malformed);
@@ -111,7 +111,23 @@ fn read_volume(alloc: Global, mut words: Words<'_>) -> Result<Event, LineFault>
     if bricks != weights.as_slice().len() as u64 || !is_volume(weights.as_slice()) {
         return Err(LineFault::Malformed);
     }
+    Ok(weights)
+}
+
+/// The event of a line that begins with `volume`, by its other words.
+fn read_volume(alloc: Global, words: Words<'_>) -> Result<Event, LineFault>
+    ensures { ReadsUnless schedule_words IsScheduled (codes "volume" ∷ words.entry) result }
+{
+    let weights = read_bricks(alloc, words)?;
     Ok(Event::Volume(weights))
+}
+
+/// The event of a line that begins with `remount`, by its other words.
+fn read_remount(alloc: Global, words: Words<'_>) -> Result<Event, LineFault>
+    ensures { ReadsUnless schedule_words IsScheduled (codes "remount" ∷ words.entry) result }
+{
+    let weights = read_bricks(alloc, words)?;
+    Ok(Event::Remount(weights))
 }
 
 /// The event of a line of these words.
@@ -125,6 +141,7 @@ fn read_words(alloc: Global, mut words: Words<'_>) -> Result<Event, LineFault>
     };
     match kind {
         b"volume" => read_volume(alloc, words),
+        b"remount" => read_remount(alloc, words),
         b"call" => read_call(alloc, words),
         b"step" => read_step(words).ok_or(LineFault::Malformed),
         b"down" => read_down(words).ok_or(LineFault::Malformed),
@@ -135,7 +152,8 @@ fn read_words(alloc: Global, mut words: Words<'_>) -> Result<Event, LineFault>
 }
 
 /// The event of a line of a schedule, which is given without its newline. A line that is too long is
-/// no event's. `OutOfMemory` comes only of a line that begins as a volume's or a call's.
+/// no event's. `OutOfMemory` comes only of a line that begins as a volume's, a remount's or a
+/// call's.
 pub fn read_line(alloc: Global, line: &[u8]) -> Result<Event, LineFault>
     ensures scheduled { IfOk result IsScheduled }
     ensures text { IfOk result (λ event. line.now ≡ schedule_text event) }

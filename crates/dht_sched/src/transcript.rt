@@ -1,7 +1,8 @@
 //! The lines of transcripts, printed.
 
 ghost use Rattle.std.specs.Prelude.{◌≡◌, ◌++◌, ◌∷◌, [], List, OnOk, OnErr};
-ghost use Rattle.dht_sched.specs.Transcript.{cause_word, line_text, lines_text, dump_text, dump_lines_text, malformed_text, limit_text, usage_text};
+ghost use Rattle.dht_sched.specs.Transcript.{cause_word, text_of, line_text, lines_text, dump_text, dump_lines_text, malformed_text, limit_text, usage_text};
+ghost use Rattle.dht_sched.specs.Spelling.{bricks_words};
 ghost use Rattle.dht_types.specs.declared.lines.Line.{Line};
 ghost use Rattle.dht_types.specs.declared.lines.DumpLine.{DumpLine};
 ghost use Rattle.dht_types.specs.declared.lines.Line.TheVariants.{Called, Stepped, Waited, Tree, Answered};
@@ -12,6 +13,7 @@ use dht_types::calls::{Answer, Call, TreeStep};
 use dht_types::errors::errno_word;
 use dht_types::identifiers::{BrickNo, CallNo, ClientNo, Gfid};
 use dht_types::lines::{Cause, Line, ReplyKind, RequestKind};
+use dht_types::volumes::Weights;
 use std::alloc::AllocError;
 
 fn cause_word(cause: Cause) -> &'static str
@@ -23,6 +25,8 @@ fn cause_word(cause: Cause) -> &'static str
         Cause::Busy => "busy",
         Cause::Idle => "idle",
         Cause::Answer => "answer",
+        Cause::Open => "open",
+        Cause::Fewer => "fewer",
     }
 }
 
@@ -154,6 +158,17 @@ fn print_answer(
     )
 }
 
+/// The bricks have these weights, from the line of this first word on.
+fn print_bricks(out: &mut Vec<u8>, first: &str, weights: &Weights) -> Result<(), AllocError>
+    ensures ok { OnOk result (out.new.items
+        ≡ out.old.items ++ text_of (first.now ∷ bricks_words weights.now)) }
+    ensures err { OnErr result (out.new.items ≡ out.old.items) }
+{
+    let weights = weights.as_slice();
+    let bricks = Field::Number(weights.len() as u64);
+    print_fields(out, first, &[bricks, Field::Numbers(weights)])
+}
+
 /// Appends the line of an event to `out`, with its newline. Where memory runs out, `out` stays as it
 /// was.
 #[tactic(auto, unfolding(crate::specs::Transcript::line_text))]
@@ -162,11 +177,8 @@ pub fn print_line(line: &Line, out: &mut Vec<u8>) -> Result<(), AllocError>
     ensures err { OnErr result (out.new.items ≡ out.old.items) }
 {
     match line {
-        Line::Volume(weights) => {
-            let weights = weights.as_slice();
-            let bricks = Field::Number(weights.len() as u64);
-            print_fields(out, "volume", &[bricks, Field::Numbers(weights)])
-        }
+        Line::Volume(weights) => print_bricks(out, "volume", weights),
+        Line::Remounted(weights) => print_bricks(out, "remount", weights),
         Line::Called(number, client, call) => print_call(out, *number, *client, call),
         Line::Stepped(number, client, brick, kind, reply) => {
             print_step(out, *number, *client, *brick, *kind, *reply)

@@ -1,7 +1,7 @@
 -- What follows of the records of a file, and of how many links a brick counts of it.
 use Rattle.std.proofs.Common.{◌≡◌, ◌≢◌, ◌<◌, ◌∙◌, ℕ, Bool, true, false, refl, sym, ap, subst, arith, cond, List, [], ◌∷◌, inl, inr}
 use Rattle.std.specs.Prelude.{Option, Some, None, is_some, count_by, map, nat_eq, if◌then◌else◌, unwrap_or, ◌||◌, ◌+◌}
-use Rattle.std.specs.FinMap.{entries, find, get, get-entries, values}
+use Rattle.std.specs.FinMap.{entries, find, get, get-entries}
 use Rattle.std.specs.Ordering.{eq_by_cmp}
 use Rattle.std.specs.declared.cmp.Ordering.{Ordering}
 use Rattle.std.proofs.lemmas.List.Sums.{sum_by-cons}
@@ -16,7 +16,7 @@ use Rattle.dht_brick.specs.Parts.{is_file, is_live, is_standlink}
 use Rattle.dht_section.proofs.EarlyLaws.{here_at, here_off, nat_cases}
 use Rattle.dht_section.specs.Disk.{file_at, slot_at}
 use Rattle.dht_section.specs.Early.{IsUnmoved}
-use Rattle.dht_section.specs.Files.{FileInvariant, NamedAs, NoCopy, NoLink, RecordsAs}
+use Rattle.dht_section.specs.Files.{FileInvariant, NamedAs, NoCopy, RecordsAs}
 use Rattle.dht_section.specs.Claims.{places_of}
 use Rattle.dht_section.specs.Invariant.{most_hops}
 use Rattle.dht_section.specs.Rely.{IsNameless, ByRecord}

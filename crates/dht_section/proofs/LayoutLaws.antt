@@ -1,6 +1,6 @@
 -- What was read of a layout names the same holders as the layout.
 use Rattle.std.proofs.Common.{◌≡◌, ◌<◌, ◌+◌, ◌^◌, ℕ, Bool, true, false, refl, sym, ◌∙◌, ap, arith, cond, inl, inr}
-use Rattle.std.specs.Prelude.{zero, suc, Option, Some, None, List, [], ◌∷◌, ◌++◌, length, not, slice_index_or, nat_lt, nat_le, ◌&&◌, if◌then◌else◌}
+use Rattle.std.specs.Prelude.{is_some, zero, suc, Option, Some, None, List, [], ◌∷◌, ◌++◌, length, not, slice_index_or, nat_lt, nat_le, ◌&&◌, if◌then◌else◌}
 use Rattle.std.proofs.Common.{length-append}
 use Rattle.std.specs.List.{position_or_len}
 use Rattle.std.proofs.lemmas.Bool.{false_from_ne_true}
@@ -147,3 +147,10 @@ read_holder e x b s sound whole h found =
     (ap (λ o. contains o (dm e.1)) (below_at s.disk e.0 s.disk.count b (omega arith)) ∙ here.1)
     (λ i k. ap (λ o. contains o (dm e.1)) (below_at s.disk e.0 s.disk.count i (omega arith))
     ∙ not_before e (mark_at x.copies i) _ i b s sound k (omega arith) here.1 (first.2 i k) (h i (omega arith)))
+
+-- and it has its copy of the directory
+pub holder_housed : (e : Entry) (x : Sight) (b : ℕ) (s : Scene) → Reads e.0 x s → holder x.layout (dm e.1) ≡ Some b → is_some (dir_at s.disk b e.0) ≡ true
+holder_housed e x b s h found =
+    let l = holder_within x.layout (dm e.1) b found in
+    let first = position-Some (λ range. contains range (dm e.1)) x.layout b None found in
+    (has_read e.0 (mark_at x.copies b) _ b (dm e.1) s (h b l) first.1).0.there

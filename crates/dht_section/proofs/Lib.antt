@@ -22,3 +22,6 @@ pub mod LocationLaws
 pub mod SectionParts
 pub mod ReapSteps
 pub mod FileLaws
+pub mod SlotLaws
+pub mod SweepSteps
+pub mod KeptLaws

@@ -1,21 +1,21 @@
 -- A section of one name that is held.
-use Rattle.std.proofs.Common.{◌≡◌, ◌<◌, ℕ, true, sym, ◌∙◌, ap, subst, arith}
-use Rattle.std.specs.Prelude.{Some, length, Contains, List, []}
+use Rattle.std.proofs.Common.{◌≡◌, ◌<◌, ℕ, true, false, refl, sym, ◌∙◌, ap, subst, arith}
+use Rattle.std.specs.Prelude.{Option, Some, None, is_some, Contains, []}
 use Rattle.dht_types.proofs.PutLaws.{exact_gfid}
-use Rattle.dht_types.specs.Gfid.{Entry, root, home}
+use Rattle.dht_types.specs.Gfid.{root, home}
 use Rattle.dht_types.specs.declared.identifiers.Gfid.{Gfid}
 use Rattle.dht_hash.specs.DaviesMeyer.{dm}
-use Rattle.dht_hash.proofs.DaviesMeyerLaws.{dm_below}
-use Rattle.dht_xattr.specs.Layout.{holder}
-use Rattle.dht_xattr.proofs.PlanLaws.{planned_holder}
+use Rattle.dht_xattr.proofs.LayoutLaws.{holder_within}
 use Rattle.dht_section.proofs.HeldLaws.{found_is, holder_is, root_holder_is, directory_is}
+use Rattle.dht_section.proofs.LayoutLaws.{below_length}
 use Rattle.dht_section.proofs.SameLists.{at_first}
 use Rattle.dht_section.specs.Disk.{holder_of, layout_of}
 use Rattle.dht_section.specs.Rely.{Rely}
 use Rattle.dht_section.specs.Scene.{Scene, Sound, HoldsName}
-use Rattle.dht_section.specs.Section.{HasScope, IsHeld, IsLooked, IsWanted, held_holder, held_looked}
-use Rattle.dht_section.specs.SectionLaws.{bricks_are, holds_name, is_held_stable}
-use Rattle.dht_section.specs.Want.{Scoped, name_at}
+use Rattle.dht_section.specs.Section.{HasScope, IsLooked, IsWanted, held_holder, held_looked}
+use Rattle.dht_section.specs.SectionLaws.{bricks_are, is_held_stable}
+use Rattle.dht_section.specs.SweepLaws.{holds_location}
+use Rattle.dht_section.specs.Want.{Scoped}
 use Rattle.dht_section.specs.declared.section.Held.{Held}
 use Rattle.dht_section.specs.Location.{IsHeldAt, entry_at, scope_at}
 use Rattle.dht_section.specs.declared.location.Location.{Location}
@@ -24,7 +24,7 @@ pub held_at_stable : (l : Location) (h : Held) (s t : Scene) → IsHeldAt l h s 
 held_at_stable l h s t k o = record { held = is_held_stable h s t k.held o; scope = k.scope }
 
 -- the name was wanted, so it stands as it was found
-wanted : (l : Location) (h : Held) → h.scope ≡ scope_at l → IsWanted h (entry_at l)
+pub wanted : (l : Location) (h : Held) → h.scope ≡ scope_at l → IsWanted h (entry_at l)
 wanted l h e = subst (λ (w : Scoped). Contains w.names (entry_at l)) (sym e) (at_first (entry_at l) [])
 
 pub looked_is : (l : Location) (h : Held) (s : Scene) → IsHeldAt l h s → IsLooked h.scope.bricks (entry_at l) (held_looked h (entry_at l)) s
@@ -49,9 +49,7 @@ root_is l h s sound k =
 
 -- its lock is held, and that of its directory
 pub name_held : (l : Location) (h : Held) (s : Scene) → IsHeldAt l h s → HoldsName s (entry_at l)
-name_held l h s k =
-    let one : 0 < length h.scope.names = subst (λ (w : Scoped). 0 < length w.names) (sym k.scope) (omega arith) in
-    subst (λ (e : Entry). HoldsName s e) (ap (λ (w : Scoped). name_at w 0) k.scope) (holds_name h.scope 0 s k.held.order one k.held.holds)
+name_held l h s k = holds_location l h.scope s k.scope k.held.order k.held.holds
 
 -- by the layout that was read, a brick of the volume holds the name
 pub record HasHolder (l : Location) (h : Held) (s : Scene) : Type 0 where
@@ -62,14 +60,18 @@ pub record HasHolder (l : Location) (h : Held) (s : Scene) : Type 0 where
 pub held_holder_is : (l : Location) (h : Held) (b : ℕ) (s : Scene) → Sound s → IsHeldAt l h s → held_holder h (entry_at l) ≡ Some b → holder_of s.disk (entry_at l) ≡ Some b
 held_holder_is l h b s sound k e = holder_is h (entry_at l) b s sound k.held (wanted l h k.scope) e
 
+some_holder : (o : Option ℕ) → is_some o ≡ true → (b : ℕ) × (o ≡ Some b)
+some_holder None h = absurd (let z : false ≡ true = h in cc)
+some_holder (Some b) h = (b, refl)
+
 pub has_holder : (l : Location) (h : Held) (s : Scene) → Sound s → IsHeldAt l h s → HasHolder l h s
 has_holder l h s sound k =
-    let w = planned_holder s.history.weights root (dm l.name) sound.kept.heavy (dm_below l.name) in
-    let counted = sound.kept.counted in
-    let there = w.1 in
     let rooted = root_is l h s sound k in
+    let w = some_holder (holder_of s.disk (root, l.name)) (sound.early.covered l.name) in
+    let below = holder_within (layout_of s.disk root) (dm l.name) w.0 w.1 in
+    let all = below_length s.disk root s.disk.count in
     record {
       brick = w.0;
       there = omega arith;
-      holds = root_holder_is h (entry_at l) s sound k.held (wanted l h k.scope) rooted ∙ (ap (λ g. holder (layout_of s.disk g) (dm l.name)) rooted ∙ (ap (λ ranges. holder ranges (dm l.name)) sound.early.planned ∙ w.2));
+      holds = root_holder_is h (entry_at l) s sound k.held (wanted l h k.scope) rooted ∙ (ap (λ g. holder_of s.disk (g, l.name)) rooted ∙ w.1);
     }

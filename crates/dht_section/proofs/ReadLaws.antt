@@ -25,7 +25,7 @@ use Rattle.dht_section.specs.Moves.{Guarantee}
 use Rattle.dht_section.specs.Rely.{bounds, AllPlanned}
 use Rattle.dht_section.specs.Replies.{fault_of, range_shown}
 use Rattle.dht_section.specs.Scene.{Scene, Sound}
-use Rattle.dht_section.specs.Section.{HadNoCopy, ReadAt, Reads, shows_gone}
+use Rattle.dht_section.specs.Section.{ReadAt, Reads, shows_gone}
 use Rattle.dht_section.specs.declared.looks.Sight.{Sight}
 use Rattle.dht_section.specs.declared.machine.Ask.{Ask}
 
@@ -62,34 +62,36 @@ look_read e b s t r sound l z going m = subst (λ (mark : Bool). ReadAt e.0 mark
       same = ap bounds (look_range e b s t r z m ∙ ap range_of (sym same));
     })
 
--- ---- what a request of one's own leaves
+-- ---- what stays where the directory's records stay
 
-planned_moved : (s t : Scene) (a : Ask) (r : Reply) → IsQuiet a.request → (g : Gfid) → AllPlanned s.disk s.history.weights g → Guarantee s a r t → AllPlanned t.disk t.history.weights g
-planned_moved s t a r q g h m b x l e = elim (h b x (let c = m.disk.count in omega arith) (sym (dir_moved s t a r m q g b) ∙ e)) [
-  | inl z ↦ inl z
-  | inr z ↦ inr (z ∙ ap (λ ws. bounds (slice_index_or (planned ws g) b None)) (sym m.weights))
-]
+module _ (s t : Scene) (g : Gfid) (same : (b : ℕ) → dir_at t.disk b g ≡ dir_at s.disk b g) (count : t.disk.count ≡ s.disk.count) (weights : t.history.weights ≡ s.history.weights) where
+  planned_kept : AllPlanned s.disk s.history.weights g → AllPlanned t.disk t.history.weights g
+  planned_kept h b x l e = elim (h b x (omega arith) (sym (same b) ∙ e)) [
+    | inl z ↦ inl z
+    | inr z ↦ inr (z ∙ ap (λ ws. bounds (slice_index_or (planned ws g) b None)) (sym weights))
+  ]
 
-none_moved : (s t : Scene) (a : Ask) (r : Reply) → IsQuiet a.request → (g : Gfid) (read : Option Range) (b : ℕ) → HadNoCopy g read b s → Guarantee s a r t → HadNoCopy g read b t
-none_moved s t a r q g read b h m = record {
-  below = h.below;
-  away = h.away;
-  nothing = h.nothing;
-  still = elim h.still [
-    | inl z ↦ inl (dir_moved s t a r m q g b ∙ z)
-    | inr z ↦ inr (planned_moved s t a r q g z m)
-  ];
-}
+  read_kept : (mark : Bool) (read : Option Range) (b : ℕ) → ReadAt g mark read b s → ReadAt g mark read b t
+  read_kept true read b h = record {
+    there = ap is_some (same b) ∙ h.there;
+    same = h.same ∙ ap (λ o. bounds (range_of o)) (sym (same b));
+  }
+  read_kept false read b h = record {
+    below = h.below;
+    away = h.away;
+    nothing = h.nothing;
+    still = elim h.still [
+      | inl z ↦ inl (same b ∙ z)
+      | inr z ↦ inr (planned_kept z)
+    ];
+  }
 
-read_moved : (s t : Scene) (a : Ask) (r : Reply) → IsQuiet a.request → (g : Gfid) (mark : Bool) (read : Option Range) (b : ℕ) → ReadAt g mark read b s → Guarantee s a r t → ReadAt g mark read b t
-read_moved s t a r q g true read b h m = record {
-  there = ap is_some (dir_moved s t a r m q g b) ∙ h.there;
-  same = h.same ∙ ap (λ o. bounds (range_of o)) (sym (dir_moved s t a r m q g b));
-}
-read_moved s t a r q g false read b h m = none_moved s t a r q g read b h m
+  pub reads_kept : (x : Sight) → Reads g x s → Reads g x t
+  reads_kept x h b l = read_kept (mark_at x.copies b) (slice_index_or x.layout b None) b (h b l)
 
+-- as they do where a quiet request of one's own was answered
 pub reads_moved : (s t : Scene) (a : Ask) (r : Reply) → IsQuiet a.request → (g : Gfid) (x : Sight) → Reads g x s → Guarantee s a r t → Reads g x t
-reads_moved s t a r q g x h m b l = read_moved s t a r q g (mark_at x.copies b) (slice_index_or x.layout b None) b (h b l) m
+reads_moved s t a r q g x h m = reads_kept s t g (dir_moved s t a r m q g) m.disk.count m.weights x h
 
 -- ---- with one brick more
 

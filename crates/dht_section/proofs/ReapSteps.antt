@@ -1,25 +1,22 @@
 -- The steps of a reap.
-use Rattle.std.proofs.Common.{◌≡◌, ◌∙◌, ℕ, Bool, true, false, refl, sym, ap, subst, arith, List}
+use Rattle.std.proofs.Common.{◌≡◌, ◌∙◌, ℕ, Bool, true, false, refl, sym, ap, arith, List}
 use Rattle.std.specs.Prelude.{Option, Some, None, is_some, length, ◌==◌, if◌then◌else◌}
-use Rattle.std.specs.FinMap.{contains_key, insert}
 use Rattle.dht_types.specs.Gfid.{anchor}
 use Rattle.dht_types.specs.History.{is_carried}
-use Rattle.dht_types.specs.Tree.{Tree}
 use Rattle.dht_types.specs.declared.calls.TreeStep.{TreeStep}
 use Rattle.dht_types.specs.declared.errors.Errno.{Errno}
 use Rattle.dht_types.specs.declared.identifiers.Gfid.{Gfid}
-use Rattle.dht_types.specs.declared.stored.Slot.{Slot}
 use Rattle.dht_brick.proofs.MapLemmas.{get-insert_here}
 use Rattle.dht_brick.proofs.TableLemmas.{gfid_total}
-use Rattle.dht_brick.specs.Contents.{Contents, Opens, Store, file, slot}
+use Rattle.dht_brick.specs.Contents.{Contents, Opens, Store, slot}
 use Rattle.dht_brick.specs.Kinds.{reply_kind}
 use Rattle.dht_brick.specs.OpenRows.{is_sealed, registrations, seal_row, sealed}
-use Rattle.dht_brick.specs.Outcome.{Outcome, Do, Refuse, within, reply_in, left_by}
+use Rattle.dht_brick.specs.Outcome.{Do, Refuse, within, reply_in, left_by}
 use Rattle.dht_brick.specs.Parts.{is_copy}
 use Rattle.dht_brick.specs.Rows.{with_opens}
 use Rattle.dht_brick.specs.declared.replies.Given.TheVariants as given
 use Rattle.dht_brick.specs.declared.replies.Reply.{Reply}
-use Rattle.dht_brick.specs.declared.replies.Reply.TheVariants.{Ok as Carried, Refused as Declined, Wait, Down, Failed, NoMemory}
+use Rattle.dht_brick.specs.declared.replies.Reply.TheVariants.{Ok as Carried, Refused as Declined, Wait}
 use Rattle.dht_brick.specs.declared.replies.Why.TheVariants as why
 use Rattle.dht_brick.specs.declared.requests.Request.TheVariants.{Seal}
 use Rattle.dht_section.proofs.ClaimLaws.{claims_more}
@@ -28,7 +25,8 @@ use Rattle.dht_section.proofs.SectionLocks.{again}
 use Rattle.dht_section.specs.Again.{is_sealing, is_decided, IsUnanswered}
 use Rattle.dht_section.specs.Claims.{Lock}
 use Rattle.dht_section.specs.Moves.{Guarantee, step_of, tree_by}
-use Rattle.dht_section.specs.Reap.{IsOrphan, IsShut, EndsByFault, drop_answered, reap_after, reap_answered, reap_brick, reap_ending, reap_stage, reap_unless, seal_answered}
+use Rattle.dht_section.specs.Parts.{EndsByFault}
+use Rattle.dht_section.specs.Reap.{IsOrphan, IsShut, drop_answered, reap_after, reap_answered, reap_brick, reap_ending, reap_stage, reap_unless, seal_answered}
 use Rattle.dht_section.specs.ReapLaws.{reap_brick_is, reap_stable}
 use Rattle.dht_section.specs.Rely.{IsNameless, BySeal}
 use Rattle.dht_section.specs.Replies.{fault_of}
@@ -37,7 +35,7 @@ use Rattle.dht_section.specs.Stages.{Served, GoesOn, EndsIn, Moves, MatchTurn, i
 use Rattle.dht_section.specs.Views.{links_to, view_of}
 use Rattle.dht_section.specs.declared.machine.Ask.{Ask}
 use Rattle.dht_section.specs.declared.machine.Turn.{Turn}
-use Rattle.dht_section.specs.declared.machine.Turn.TheVariants.{Go, Done}
+use Rattle.dht_section.specs.declared.machine.Turn.TheVariants.{Go}
 use Rattle.dht_section.specs.declared.reap.Orphan.{Orphan}
 use Rattle.dht_section.specs.declared.reap.Reap.{Reap}
 use Rattle.dht_section.specs.declared.reap.Reap.TheVariants.{Sealing, Dropping}

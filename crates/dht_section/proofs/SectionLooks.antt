@@ -34,7 +34,7 @@ use Rattle.dht_section.specs.Scene.{Scene, Sound}
 use Rattle.dht_section.specs.Section.{Saw, ReadAt, Reads, found_shape, look_ask, last_lock, HasScope, IsFresh, AllHeld, SawAt, BrickShown, FileShown, WhatShown, Shown, IsLooked, AllLooked, WasGone, shows_gone, section_stage, opened_ending}
 use Rattle.dht_section.specs.SectionLaws.{bricks_are}
 use Rattle.dht_section.specs.Stages.{Served, GoesOn, EndsIn}
-use Rattle.dht_section.specs.Views.{links_to}
+use Rattle.dht_section.specs.Views.{visible, links_to}
 use Rattle.dht_section.specs.Want.{Scoped, key_at, name_at, dir_of}
 use Rattle.dht_section.specs.declared.looks.Linkto.TheVariants.{No}
 use Rattle.dht_section.specs.declared.looks.Looked.{Looked}
@@ -65,10 +65,18 @@ IsNoDirMain : Option Main → Type 0
 IsNoDirMain (Some (ADir g)) = ⊥
 IsNoDirMain m = Unit {0}
 
+-- a core that is none is of a main part that is none
+no_dir_seen : (m : Option Main) → visible m ≡ None → IsNoDirMain m
+unfolding IsNoDirMain
+no_dir_seen None e = tt
+no_dir_seen (Some (ADir g)) e = let z : Some (ADir g) ≡ None = e in cc
+no_dir_seen (Some (AFile f over)) e = tt
+no_dir_seen (Some (Linkto value)) e = tt
+
 plain_main : (p : Slot) → IsPlain p → IsNoDirMain p.main
 unfolding IsNoDirMain
 plain_main p h = elim h [
-  | inl q ↦ subst (λ (x : Slot). IsNoDirMain x.main) (sym q) tt
+  | inl q ↦ no_dir_seen p.main (ap (λ (x : Slot). x.main) q)
   | inr q ↦ subst (λ (x : Slot). IsNoDirMain x.main) (sym q.1) tt
 ]
 

@@ -23,7 +23,7 @@ use Rattle.dht_brick.specs.declared.requests.NameRequest.TheVariants.{Look}
 use Rattle.dht_brick.specs.declared.requests.Request.TheVariants.{OnNames}
 use Rattle.dht_brick.specs.declared.replies.Reply.{Reply}
 use Rattle.dht_brick.specs.declared.replies.Reply.TheVariants.{Ok as Carried, Refused as Declined, Wait, Down, Failed, NoMemory}
-use Rattle.dht_section.proofs.EarlyLaws.{nat_cases, here_at, here_off, plain_shape, core_plain}
+use Rattle.dht_section.proofs.EarlyLaws.{nat_cases, here_at, here_off, plain_shape, plain_core}
 use Rattle.dht_section.proofs.SceneLaws.{row_reply}
 use Rattle.dht_section.specs.Disk.{file_of_main, file_in, slot_at, dir_at, name_at, range_of}
 use Rattle.dht_section.specs.Early.{IsPlain}
@@ -50,7 +50,7 @@ full_of s e sound = elim (plain_shape s.disk.count n.0 n.1.fits all_plain) [
     n = sound.kept.things.names e
 
     all_plain : (b : ℕ) → b < s.disk.count → IsPlain (core_at n.0 b)
-    all_plain b l = subst IsPlain (sym (core_plain (slot_at s.disk b e) (sound.early.plain e b l)) ∙ n.1.has b l) (sound.early.plain e b l)
+    all_plain b l = subst IsPlain (n.1.has b l) (plain_core (slot_at s.disk b e) (sound.early.plain e b l))
 
 -- no brick was looked at, and none showed it
 pub none_below : (full : Option Place) → None ≡ shown_below 0 full

@@ -33,3 +33,5 @@ pub mod PartLaws
 pub mod Location
 pub mod Reap
 pub mod ReapLaws
+pub mod Sweep
+pub mod SweepLaws

@@ -1,13 +1,14 @@
 -- What must hold when a request is sent.
 use Rattle.std.specs.Prelude.{ℕ, ◌+◌, ◌<◌, ◌≡◌, ◌⊎◌, Option, Some, None, List, slice_index_or}
 use Rattle.dht_types.specs.Gfid.{Entry, anchor, home}
+use Rattle.dht_types.specs.Saved.{IsValue}
 use Rattle.dht_types.specs.declared.identifiers.Gfid.{Gfid}
 use Rattle.dht_types.specs.declared.locks.Key.{Key}
 use Rattle.dht_types.specs.declared.locks.Key.TheVariants.{Rebalance, Dir, Entry as Name, Content}
 use Rattle.dht_brick.specs.Named.{name_named}
 use Rattle.dht_section.specs.declared.machine.Ask.{Ask}
 use Rattle.dht_brick.specs.declared.requests.NameRequest.{NameRequest}
-use Rattle.dht_brick.specs.declared.requests.NameRequest.TheVariants.{Look, Page, Dirinfo, SetLayout, MakeDir, DropDir, Create, Unlink, Link, LinkOver, StandLink, Orphans}
+use Rattle.dht_brick.specs.declared.requests.NameRequest.TheVariants.{Look, Page, Dirinfo, SetLayout, MakeDir, DropDir, Create, MakeLinkto, DropLinkto, Unlink, Link, LinkOver, StandLink, Orphans}
 use Rattle.dht_brick.specs.declared.requests.FileRequest.{FileRequest}
 use Rattle.dht_brick.specs.declared.requests.FileRequest.TheVariants.{Drop}
 use Rattle.dht_brick.specs.declared.requests.Request.{Request}
@@ -60,6 +61,8 @@ abbrev pub Also : Scene → ℕ → NameRequest → Type 0
 Also s b (MakeDir d n g depth value) = HasDepth s b d n g depth × IsPlannedAt s b g value
 Also s b (DropDir d n g) = IsEmpty s g
 Also s b (Create d n f) = (holder_of s.disk (d, n) ≡ Some b) × IsUnused s f
+-- in the first run each file is on its holder, and needs no linkto
+Also s b (MakeLinkto d n value) = IsValue value × (s.history.run ≡ 1 → ⊥)
 -- a name is given to a file of another name that I hold
 Also s b (Link d n f) = (x : Entry) × HoldsName s x × NameStands s x (Plain b f)
 Also s b (LinkOver d n f old) = (x : Entry) × HoldsName s x × NameStands s x (Plain b f)
@@ -89,6 +92,8 @@ abbrev pub IsBuilt : NameRequest → Type 0
 IsBuilt (Look d n) = Unit {0}
 IsBuilt (Dirinfo d) = Unit {0}
 IsBuilt (Create d n f) = Unit {0}
+IsBuilt (MakeLinkto d n value) = Unit {0}
+IsBuilt (DropLinkto d n) = Unit {0}
 IsBuilt (Unlink d n f) = Unit {0}
 IsBuilt q = ⊥
 

@@ -1,5 +1,5 @@
 -- What a reap asks and knows, and how a reply takes it on.
-use Rattle.std.specs.Prelude.{ℕ, ◌<◌, ◌≡◌, ◌==◌, if◌then◌else◌, true, Option, Some, None, MatchOption, List, [], length}
+use Rattle.std.specs.Prelude.{ℕ, ◌<◌, ◌≡◌, ◌==◌, if◌then◌else◌, true, Option, Some, None, List, [], length}
 use Rattle.dht_types.specs.Gfid.{anchor}
 use Rattle.dht_types.specs.declared.errors.Errno.{Errno}
 use Rattle.dht_types.specs.declared.identifiers.BrickNo.{BrickNo}
@@ -10,10 +10,11 @@ use Rattle.dht_brick.specs.declared.replies.Why.TheVariants.{Open}
 use Rattle.dht_brick.specs.declared.requests.FileRequest.TheVariants.{Drop}
 use Rattle.dht_brick.specs.declared.requests.Request.TheVariants.{Seal, OnFile}
 use Rattle.dht_section.specs.Claims.{Lock, claims_locks}
+use Rattle.dht_section.specs.Parts.{part_ending}
 use Rattle.dht_section.specs.Rely.{IsNameless}
 use Rattle.dht_section.specs.Replies.{fault_of}
-use Rattle.dht_section.specs.Scene.{Scene, MayAnswer, fault_finish}
-use Rattle.dht_section.specs.Stages.{Stage, Ending, MatchTurn}
+use Rattle.dht_section.specs.Scene.{Scene}
+use Rattle.dht_section.specs.Stages.{Stage, Ending}
 use Rattle.dht_section.specs.Views.{view_of}
 use Rattle.dht_section.specs.declared.machine.Turn.{Turn}
 use Rattle.dht_section.specs.declared.machine.Turn.TheVariants.{Go, Done}
@@ -53,10 +54,7 @@ reap_stage locks (Dropping x) = record {
 
 -- where a brick's error ended it, the call may answer that
 abbrev pub reap_ending : List Lock → Option Errno → Ending
-reap_ending locks fault = record {
-  claims = claims_locks locks;
-  earned = λ s. MatchOption fault (Unit {0}) (λ e. MayAnswer (fault_finish e) s);
-}
+reap_ending locks fault = part_ending locks (λ s. Unit {0}) fault
 
 -- under no locks
 abbrev pub lone_reap : Reap → Stage
@@ -92,7 +90,3 @@ reap_unless (Some e) turn = Done (Some e)
 
 abbrev pub reap_after : Reap → Reply → Turn Reap (Option Errno)
 reap_after m r = reap_unless (fault_of r) (reap_answered m r)
-
--- it ends by the error of the reply, or by none, and goes on where the reply tells of none
-abbrev pub EndsByFault : Reply → Turn Reap (Option Errno) → Type 0
-EndsByFault r turn = MatchTurn turn (λ n. fault_of r ≡ None) (λ d. d ≡ fault_of r)

@@ -5,7 +5,7 @@ use Rattle.std.proofs.lemmas.Bool.Decides.{nat_tests}
 use Rattle.dht_types.specs.Gfid.{anchor}
 use Rattle.dht_types.specs.declared.identifiers.Gfid.{Gfid}
 use Rattle.dht_section.specs.Claims.{Lock}
-use Rattle.dht_section.specs.Reap.{IsOrphan, IsShut, reap_brick, reap_stage, lone_reap}
+use Rattle.dht_section.specs.Reap.{IsOrphan, reap_brick, reap_stage, lone_reap}
 use Rattle.dht_section.specs.Rely.{Rely}
 use Rattle.dht_section.specs.Scene.{Scene, Sound}
 use Rattle.dht_section.specs.Stages.{MaySend, IsStable}
@@ -39,7 +39,7 @@ reap_permitted locks (Dropping x) s sound h = record {
   may = (tt, (h.knows.sealed, h.knows.orphan.nameless));
 }
 
-orphan_stable : (x : Orphan) (s t : Scene) → IsOrphan x s → Rely s t → IsOrphan x t
+pub orphan_stable : (x : Orphan) (s t : Scene) → IsOrphan x s → Rely s t → IsOrphan x t
 orphan_stable x s t h o = record {
   bricks = ap length o.weights ∙ h.bricks;
   there = let l = h.there in let c = o.count in omega arith;

@@ -196,7 +196,7 @@ saw_at_stable e x s t h o =
     }
 
 -- the core of a name's slot, by how it stands
-same_core : (e : Entry) (h : NameShape) (s t : Scene) (b : ℕ) → t.disk.count ≡ s.disk.count → b < s.disk.count → NameStands s e h → NameStands t e h → core (slot_at t.disk b e) ≡ core (slot_at s.disk b e)
+pub same_core : (e : Entry) (h : NameShape) (s t : Scene) (b : ℕ) → t.disk.count ≡ s.disk.count → b < s.disk.count → NameStands s e h → NameStands t e h → core (slot_at t.disk b e) ≡ core (slot_at s.disk b e)
 same_core e h s t b count l k q = q.has b (omega arith) ∙ sym (k.has b l)
 
 -- the hop of a record, by its outline

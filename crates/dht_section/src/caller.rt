@@ -12,7 +12,7 @@ use super::machine::{Ask, Finish};
 use dht_brick::replies::Reply;
 use dht_types::calls::Call;
 use dht_types::errors::Errno;
-use dht_types::identifiers::{CallNo, Gfid};
+use dht_types::identifiers::{CallNo, ClientNo, Gfid};
 use dht_types::volumes::Weights;
 use std::alloc::Global;
 
@@ -26,6 +26,11 @@ pub trait Caller: Sized {
 
     /// Where its call is between its requests.
     ghost stage: { Self → Stage };
+
+    /// A client of this number that has called nothing yet.
+    fn new(client: ClientNo) -> Self
+        ensures number { number result ≡ client }
+        ensures idle { is_busy result ≡ false };
 
     /// Whether no call of it is running.
     fn is_idle(&self) -> bool

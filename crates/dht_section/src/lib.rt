@@ -11,4 +11,5 @@ pub mod machine;
 pub mod reap;
 pub mod replies;
 pub mod section;
+pub mod sweep;
 pub mod want;

@@ -4,7 +4,8 @@
 ghost use Rattle.std.specs.Prelude.{◌≡◌, List};
 ghost use Rattle.dht_section.specs.Again.{IsUnanswered};
 ghost use Rattle.dht_section.specs.Claims.{Lock as ALock};
-ghost use Rattle.dht_section.specs.Reap.{reap_stage, lone_reap, reap_ending, lone_ending, reap_brick, first_reap, seal_answered, drop_answered, reap_after, EndsByFault};
+ghost use Rattle.dht_section.specs.Parts.{EndsByFault};
+ghost use Rattle.dht_section.specs.Reap.{reap_stage, lone_reap, reap_ending, lone_ending, reap_brick, first_reap, seal_answered, drop_answered, reap_after};
 ghost use Rattle.dht_section.specs.ReapLaws.{lone_permitted, lone_stable};
 ghost use Rattle.dht_section.specs.Stages.{Moves};
 ghost use Rattle.dht_section.specs.declared.machine.Turn.TheVariants as turn;

@@ -372,7 +372,7 @@ impl Machine for Section {
 
 impl Held {
     /// What was seen of a name.
-    fn looked(&self, directory: Gfid, name: &Name) -> Looked
+    pub(crate) fn looked(&self, directory: Gfid, name: &Name) -> Looked
         ensures { result ≡ held_looked self.now (directory, name.now) }
     {
         match self.scope.place(directory, name) {

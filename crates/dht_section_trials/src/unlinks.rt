@@ -4,6 +4,7 @@ use dht_brick::replies::{Given, Look, Reply, Why};
 use dht_brick::requests::{FileRequest, NameRequest, Request};
 use dht_fileops::unlink::Unlink;
 use dht_section::machine::{Machine, Turn};
+use dht_types::bytes::Bytes;
 use dht_types::calls::Answer;
 use dht_types::errors::Errno;
 use dht_types::identifiers::{BrickNo, Gfid};
@@ -19,6 +20,7 @@ enum Kind {
     LockName,
     Look,
     Unlink,
+    DropLinkto,
     Seal,
     Drop,
     UnlockName,
@@ -39,6 +41,7 @@ fn kind_of(request: &Request) -> Kind {
         Request::OnFile(FileRequest::Drop(FILE)) => Kind::Drop,
         Request::OnNames(NameRequest::Look(_, _)) => Kind::Look,
         Request::OnNames(NameRequest::Unlink(_, _, FILE)) => Kind::Unlink,
+        Request::OnNames(NameRequest::DropLinkto(_, _)) => Kind::DropLinkto,
         _ => Kind::Other,
     }
 }
@@ -68,8 +71,9 @@ fn answered(unlink: Unlink, kind: Kind, brick: u16, reply: Reply, at: u64) -> Re
     }
 }
 
-/// An unlink that has looked at both bricks, and whose name is a file on the first.
-fn found(rt: HostRuntime) -> Result<Unlink, Fail> {
+/// An unlink that has looked at both bricks, and whose name is a file on the first; the second has
+/// shown this.
+fn found(rt: HostRuntime, second: Option<Main>) -> Result<Unlink, Fail> {
     let name = Name::of(b"a");
     let unlink = Unlink::begin(rt.alloc(), 2, Gfid::ROOT, name)?;
     let unlink = answered(unlink, Kind::LockDir, 0, Reply::Ok(Given::Nothing), 4)?;
@@ -81,7 +85,7 @@ fn found(rt: HostRuntime) -> Result<Unlink, Fail> {
         shown(Some(Main::File(FILE, None))),
         6,
     )?;
-    answered(unlink, Kind::Look, 1, shown(None), 7)
+    answered(unlink, Kind::Look, 1, shown(second), 7)
 }
 
 /// The answer is this error, or that it is done.
@@ -107,7 +111,7 @@ fn ends(unlink: Unlink, fault: Option<Errno>, at: Option<u64>) -> Result<(), Fai
 
 #[test]
 fn the_last_name_takes_the_file_along(rt: HostRuntime) -> Result<(), Fail> {
-    let unlink = found(rt)?;
+    let unlink = found(rt, None)?;
     let unlink = answered(unlink, Kind::Unlink, 0, Reply::Ok(Given::Links(0)), 9)?;
     let unlink = answered(unlink, Kind::Seal, 1, Reply::Ok(Given::Nothing), 10)?;
     let unlink = answered(unlink, Kind::Drop, 0, Reply::Ok(Given::Nothing), 11)?;
@@ -116,7 +120,7 @@ fn the_last_name_takes_the_file_along(rt: HostRuntime) -> Result<(), Fail> {
 
 #[test]
 fn an_open_file_stays(rt: HostRuntime) -> Result<(), Fail> {
-    let unlink = found(rt)?;
+    let unlink = found(rt, None)?;
     let unlink = answered(unlink, Kind::Unlink, 0, Reply::Ok(Given::Links(0)), 9)?;
     let unlink = answered(unlink, Kind::Seal, 1, Reply::Refused(Why::Open(1)), 10)?;
     ends(unlink, None, Some(9))
@@ -124,15 +128,26 @@ fn an_open_file_stays(rt: HostRuntime) -> Result<(), Fail> {
 
 #[test]
 fn a_file_with_another_name_stays(rt: HostRuntime) -> Result<(), Fail> {
-    let unlink = found(rt)?;
+    let unlink = found(rt, None)?;
     let unlink = answered(unlink, Kind::Unlink, 0, Reply::Ok(Given::Links(1)), 9)?;
     ends(unlink, None, Some(9))
 }
 
 #[test]
 fn a_brick_that_is_down_ends_it(rt: HostRuntime) -> Result<(), Fail> {
-    let unlink = found(rt)?;
+    let unlink = found(rt, None)?;
     let unlink = answered(unlink, Kind::Unlink, 0, Reply::Ok(Given::Links(0)), 9)?;
     let unlink = answered(unlink, Kind::Seal, 1, Reply::Down, 10)?;
     ends(unlink, Some(Errno::Enotconn), None)
+}
+
+#[test]
+fn a_linkto_of_the_name_goes_too(rt: HostRuntime) -> Result<(), Fail> {
+    let linkto = Main::Linkto(Bytes::new(Vec::from_slice(rt.alloc(), b"brick-0\0")?));
+    let unlink = found(rt, Some(linkto))?;
+    let unlink = answered(unlink, Kind::Unlink, 0, Reply::Ok(Given::Links(0)), 9)?;
+    let unlink = answered(unlink, Kind::DropLinkto, 1, Reply::Ok(Given::Nothing), 10)?;
+    let unlink = answered(unlink, Kind::Seal, 1, Reply::Ok(Given::Nothing), 11)?;
+    let unlink = answered(unlink, Kind::Drop, 0, Reply::Ok(Given::Nothing), 12)?;
+    ends(unlink, None, Some(9))
 }

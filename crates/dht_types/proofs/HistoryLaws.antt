@@ -5,7 +5,7 @@ use Rattle.dht_types.proofs.PutLaws.{put_same, put_other, exact_nat}
 use Rattle.dht_types.specs.History.{History, Owed, with_step, tells, with_line, with_lines, start, history_of, LegalFrom}
 use Rattle.dht_types.specs.declared.calls.TreeStep.{TreeStep}
 use Rattle.dht_types.specs.declared.lines.Line.{Line}
-use Rattle.dht_types.specs.declared.lines.Line.TheVariants.{Volume, Called, Stepped, Waited, Tree as Changed, Answered, WentDown, CameUp, Died, Refused}
+use Rattle.dht_types.specs.declared.lines.Line.TheVariants.{Volume, Remounted, Called, Stepped, Waited, Tree as Changed, Answered, WentDown, CameUp, Died, Refused}
 
 pub lines_more : (s : History) (xs : List Line) (x : Line) → with_lines s (xs ++ x ∷ []) ≡ with_line (with_lines s xs) x
 lines_more s [] x = refl
@@ -37,15 +37,20 @@ step_run : (s : History) (step : TreeStep) (o : Option Owed) → (with_step s st
 step_run s step None = refl
 step_run s step (Some o) = refl
 
--- no line changes the run's number
-pub run_with_line : (s : History) (x : Line) → (with_line s x).run ≡ s.run
-run_with_line s (Volume w) = refl
-run_with_line s (Called k c call) = refl
-run_with_line s (Stepped k c b q r) = refl
-run_with_line s (Waited k c b h) = refl
-run_with_line s (Changed k step) = step_run s step s.owed
-run_with_line s (Answered k c j a) = refl
-run_with_line s (WentDown b) = refl
-run_with_line s (CameUp b) = refl
-run_with_line s (Died c) = refl
-run_with_line s (Refused n cause) = refl
+-- a remount begins another run, and no other line does
+abbrev pub IsNoRemount : Line → Type 0
+IsNoRemount (Remounted w) = ⊥
+IsNoRemount x = Unit {0}
+
+pub run_with_line : (s : History) (x : Line) → IsNoRemount x → (with_line s x).run ≡ s.run
+run_with_line s (Volume w) h = refl
+run_with_line s (Remounted w) h = absurd h
+run_with_line s (Called k c call) h = refl
+run_with_line s (Stepped k c b q r) h = refl
+run_with_line s (Waited k c b w) h = refl
+run_with_line s (Changed k step) h = step_run s step s.owed
+run_with_line s (Answered k c j a) h = refl
+run_with_line s (WentDown b) h = refl
+run_with_line s (CameUp b) h = refl
+run_with_line s (Died c) h = refl
+run_with_line s (Refused n cause) h = refl

@@ -12,6 +12,10 @@ root = record { 0 = 1 }
 abbrev pub made : ℕ → ClientNo → CallNo → ℕ → Gfid
 made run client call home = record { 0 = (run * 65536 + client.0) * 1208925819614629174706176 + (call.0 * 65536 + home) }
 
+-- the run in which it was made
+abbrev pub run_of : Gfid → ℕ
+run_of g = g.0 / 79228162514264337593543950336
+
 -- the low 16 bits, and 0 for the root
 abbrev pub home : Gfid → ℕ
 home g = if g.0 == 1 then 0 else g.0 % 65536

@@ -1,5 +1,5 @@
 -- What the lines of a transcript tell, and when a transcript is legal. Nothing here speaks of bricks' contents or of programs.
-use Rattle.std.specs.Prelude.{ℕ, ◌+◌, ◌^◌, ◌<◌, ◌≤◌, ◌≡◌, ◌||◌, ◌&&◌, if◌then◌else◌, nat_eq, Bool, true, false, not, Option, Some, None, MatchOption, List, [], ◌∷◌, ◌++◌}
+use Rattle.std.specs.Prelude.{ℕ, ◌+◌, ◌^◌, ◌<◌, ◌≤◌, ◌≡◌, ◌||◌, ◌&&◌, if◌then◌else◌, nat_eq, Bool, true, false, not, Option, Some, None, MatchOption, List, [], ◌∷◌, ◌++◌, length}
 use Rattle.dht_types.specs.Put.{put}
 use Rattle.dht_types.specs.Calls.{refusal_at_once}
 use Rattle.dht_types.specs.Gfid.{Entry, root, made}
@@ -19,7 +19,7 @@ use Rattle.dht_types.specs.declared.lines.RequestKind.TheVariants.{Lock, Create,
 use Rattle.dht_types.specs.declared.lines.ReplyKind.{ReplyKind}
 use Rattle.dht_types.specs.declared.lines.ReplyKind.TheVariants.{Ok as Carried, Wait, Down, Failed, NoMemory}
 use Rattle.dht_types.specs.declared.lines.Line.{Line}
-use Rattle.dht_types.specs.declared.lines.Line.TheVariants.{Volume, Called, Stepped, Waited, Tree as Changed, Answered, WentDown, CameUp, Died, Refused}
+use Rattle.dht_types.specs.declared.lines.Line.TheVariants.{Volume, Remounted, Called, Stepped, Waited, Tree as Changed, Answered, WentDown, CameUp, Died, Refused}
 
 -- a tree line of a call
 pub record Deed : Type 0 where
@@ -180,6 +180,8 @@ gfid_in (Fault e) = None
 -- what each kind of line changes
 abbrev pub tells : History → Line → History
 tells s (Volume w) = record s { weights = w }
+-- the next run begins, in which every client is alive
+tells s (Remounted w) = record s { weights = w; run = s.run + 1; dead = λ c. false }
 tells s (Called k c call) = record s {
   calls = s.calls + 1;
   pending = put nat_eq s.pending c.0 (Some (accepted s.callers (s.size + 1) k call));
@@ -332,6 +334,8 @@ HeedsRefusal r a = MatchOption (refusal_at_once r.call) (Unit {0}) (λ e. a ≡ 
 abbrev pub Follows : History → Line → Type 0
 -- the volume line is the first
 Follows s (Volume w) = s.size ≡ 0
+-- a remount comes while no call is pending, and takes no brick away
+Follows s (Remounted w) = (s.owed ≡ None) × ((c : ℕ) → s.pending c ≡ None) × (length s.weights ≤ length w)
 -- no line comes between a request and its tree line; calls are numbered, and a client that is busy calls nothing
 Follows s (Called k c call) = (s.owed ≡ None) × (k.0 ≡ s.calls + 1) × (s.pending c.0 ≡ None)
 -- a call that is to be refused at once takes no step

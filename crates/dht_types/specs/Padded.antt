@@ -1,7 +1,7 @@
 -- A list at the start of a place of fixed size, with one filler behind it.
-use Rattle.std.specs.Prelude.{ℕ, ◌≡◌, ◌-◌, ◌≤◌, List, ◌++◌, length, take, drop, replicate}
+use Rattle.std.specs.Prelude.{ℕ, ◌≡◌, ◌+◌, ◌-◌, ◌≤◌, List, ◌++◌, length, take, drop, replicate}
 use Rattle.std.proofs.Common.{sym, ap, ◌∙◌, arith, length-append}
-use Rattle.std.proofs.lemmas.List.{take-append-drop, length-take-le, length-replicate}
+use Rattle.std.proofs.lemmas.List.{take-append-drop, length-take-le, length-drop, length-replicate, drop-drop, drop-replicate}
 use Rattle.std.proofs.Math.Seq.{take-append_seam, drop-append_seam}
 
 -- the first n of so many places count, and the others have the filler
@@ -32,3 +32,40 @@ padded_is {A} size filler xs h = record {
 
 pub padded_prefix : {A : Type 0} (size : ℕ) (filler : A) (xs : List A) → take (length xs) (padded size filler xs) ≡ xs
 padded_prefix size filler xs = take-append_seam xs (replicate (size - length xs) filler)
+
+-- a piece more
+behind : {A : Type 0} (size n : ℕ) (filler : A) (places piece : List A) → IsPadded size filler n places → length (take n places ++ piece) ≡ n + length piece
+behind size n filler places piece h =
+    let full = h.full in
+    let short = h.short in
+    let first = length-take-le n places (omega arith) in
+    omega (arith, length-append (take n places) piece)
+
+pub longer_padded : {A : Type 0} (size n : ℕ) (filler : A) (places piece joined : List A) → IsPadded size filler n places → n + length piece ≤ size → joined ≡ take n places ++ piece ++ drop (n + length piece) places → IsPadded size filler (n + length piece) joined
+longer_padded size n filler places piece joined h fits e =
+    let first = take n places ++ piece in
+    let rest = drop (n + length piece) places in
+    let m = n + length piece in
+    let at : length first ≡ m = behind size n filler places piece h in
+    let full = h.full in
+    let rested : length rest ≡ length places - m = length-drop m places in
+    let whole : length joined ≡ length (first ++ rest) = ap length e in
+    let same : size - n - length piece ≡ size - m = omega arith in
+    record {
+      full = omega (arith, length-append first rest);
+      short = fits;
+      filled = ap (λ xs. drop m xs) e
+          ∙ (ap (λ (i : ℕ). drop i (first ++ rest)) (sym at)
+          ∙ (drop-append_seam first rest
+          ∙ (sym (drop-drop (length piece) n places)
+          ∙ (ap (λ xs. drop (length piece) xs) h.filled
+          ∙ (drop-replicate (length piece) (size - n) filler ∙ ap (λ (i : ℕ). replicate i filler) same)))));
+    }
+
+pub longer_is : {A : Type 0} (size n : ℕ) (filler : A) (places piece joined : List A) → IsPadded size filler n places → joined ≡ take n places ++ piece ++ drop (n + length piece) places → take (n + length piece) joined ≡ take n places ++ piece
+longer_is size n filler places piece joined h e =
+    let first = take n places ++ piece in
+    let rest = drop (n + length piece) places in
+    ap (λ xs. take (n + length piece) xs) e
+    ∙ (ap (λ (i : ℕ). take i (first ++ rest)) (sym (behind size n filler places piece h))
+    ∙ take-append_seam first rest)

@@ -33,7 +33,7 @@ fn grow(bytes: &mut Vec<u8>, size: usize) -> Result<(), AllocError>
 }
 
 /// Writes a piece over the bytes at an offset.
-fn overwrite(bytes: &mut [u8], start: usize, piece: &[u8])
+pub(crate) fn overwrite(bytes: &mut [u8], start: usize, piece: &[u8])
     requires { start + length piece.now ≤ length bytes.old }
     ensures { bytes.new
         ≡ take start bytes.old ++ piece.now ++ drop (start + length piece.now) bytes.old }

@@ -21,6 +21,9 @@ pub enum Directory {
 pub enum Event {
     /// The volume: its bricks' weights, in the bricks' order. It stands first and alone.
     Volume(Weights),
+    /// More bricks, or other weights of those that are there: the weights of all, in the bricks' order.
+    /// All clients begin anew.
+    Remount(Weights),
     /// This client calls.
     Call(u64, Call<Directory>),
     /// The next request of this client's call is carried out.

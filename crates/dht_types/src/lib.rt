@@ -9,6 +9,7 @@ pub mod errors;
 pub mod events;
 pub mod identifiers;
 pub mod lines;
+pub mod linktos;
 pub mod locks;
 pub mod names;
 pub mod saved;

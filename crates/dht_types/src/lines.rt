@@ -114,6 +114,10 @@ pub enum Cause {
     Idle,
     /// It names a directory by the answer of a call that has not answered a file or a directory.
     Answer,
+    /// A call is running.
+    Open,
+    /// There would be fewer bricks.
+    Fewer,
 }
 
 /// A line of a transcript that tells of an event.
@@ -121,6 +125,8 @@ pub enum Cause {
 pub enum Line {
     /// The volume, by its bricks' weights.
     Volume(Weights),
+    /// The volume was mounted anew, with these weights of its bricks; there may be more of them now.
+    Remounted(Weights),
     /// A client's call was accepted.
     Called(CallNo, ClientNo, Call<Gfid>),
     /// A brick served a request of a call.

@@ -320,12 +320,13 @@ module _ {C : Type 0} (g : CallerGhosts C) (laws : TransitionLaws) (stable : (x 
         let three = laws.line c e after_lines (put nat_eq claims c no_claim) end two.kept two.early (record {
           tree = refl;
           weights = refl;
+          run = refl;
           calls = omega arith;
           pending = λ i ne. put_other nat_eq exact_nat after_lines.pending c None i ne;
           own = λ o q fresh. absurd (let z : None ≡ Some o = sym (put_same nat_eq exact_nat after_lines.pending c None) ∙ q in cc);
         }) in
         let both = laws.compose c d e e before_lines after_lines u claims (put nat_eq claims c no_claim) (put nat_eq claims c no_claim) h.fit.kept two three in
-        let last : Passes c after_lines u = record { weights = refl; calls = omega arith; clean = and_first after_lines.clean _; dead = λ i ne. refl } in
+        let last : Passes c after_lines u = record { weights = refl; calls = omega arith; clean = and_first after_lines.clean _; dead = λ i ne. refl; down = λ b l. refl } in
         let happens : Happens g c d e ks before_lines u places (slice_set places c new) (summary_ended f) = record {
           transition = subst (λ (q : ℕ → Claim). Transition c d before_lines claims e u q) set both;
           passes = passes_on c before_lines after_lines u w.passes last;

@@ -1,6 +1,6 @@
 -- How what holds of the world is kept by an event: what each lemma here asks of the event, and the events that are no step.
-use Rattle.std.proofs.Common.{◌≡◌, ◌<◌, ◌+◌, ℕ, Bool, true, false, List, [], ◌∷◌, ◌++◌, refl, sym, ap, ◌∙◌, subst, inl, length, arith}
-use Rattle.std.specs.Prelude.{Option, Some, None, nat_eq, if◌then◌else◌, slice_get, slice_set}
+use Rattle.std.proofs.Common.{◌≡◌, ◌<◌, ◌≤◌, ◌+◌, ℕ, Bool, true, false, List, [], ◌∷◌, ◌++◌, refl, sym, ap, ◌∙◌, subst, inl, length, arith}
+use Rattle.std.specs.Prelude.{Option, Some, None, is_some, nat_eq, if◌then◌else◌, slice_get, slice_set}
 use Rattle.std.proofs.Math.ListN.{length-set}
 use Rattle.dht_types.proofs.PutLaws.{put_same, put_other, exact_nat}
 use Rattle.dht_types.specs.History.{History, PendingCall, Follows, LegalFrom, tells, with_line, with_lines, start, history_of}
@@ -19,7 +19,7 @@ use Rattle.dht_section.specs.Stages.{IsStable}
 use Rattle.dht_section.specs.declared.caller.Caller.{Ghosts as CallerGhosts}
 use Rattle.dht_invariant.specs.Laws.{TransitionLaws}
 use Rattle.dht_invariant.specs.Transition.{scene, Transition, FreesClient}
-use Rattle.dht_world.specs.Clients.{client, claim_at, claims_of, Works, ClientFits, CallsCounted, Starts}
+use Rattle.dht_world.specs.Clients.{client, claim_at, claims_of, ClientFits, IsListed}
 use Rattle.dht_world.specs.Following.{InTime, InTimeFrom}
 use Rattle.dht_world.specs.World.{Summary, Fit, At}
 use Rattle.dht_world.specs.declared.places.Place.{Place}
@@ -65,6 +65,7 @@ pub record IsStill (s : History) (x : Line) : Type 0 where
   pub pending : (tells s x).pending ≡ s.pending
   pub callers : (tells s x).callers ≡ s.callers
   pub dead : (tells s x).dead ≡ s.dead
+  pub down : (b : ℕ) → length s.weights ≤ b → (tells s x).down b ≡ s.down b
   pub clean : (tells s x).clean ≡ true → s.clean ≡ true
   pub requests : (tells s x).requests ≡ s.requests
   pub acts : (tells s x).acts ≡ s.acts
@@ -72,13 +73,13 @@ pub record IsStill (s : History) (x : Line) : Type 0 where
   pub answered : (tells s x).answered ≡ s.answered
 
 pub still_refused : (s : History) (n : ℕ) (cause : Cause) → IsStill s (Refused n cause)
-still_refused s n cause = record { tree = refl; weights = refl; run = refl; calls = refl; pending = refl; callers = refl; dead = refl; clean = λ q. q; requests = refl; acts = refl; changes = refl; answered = refl }
+still_refused s n cause = record { tree = refl; weights = refl; run = refl; calls = refl; pending = refl; callers = refl; dead = refl; down = λ b l. refl; clean = λ q. q; requests = refl; acts = refl; changes = refl; answered = refl }
 
-pub still_down : (s : History) (b : BrickNo) → IsStill s (WentDown b)
-still_down s b = record { tree = refl; weights = refl; run = refl; calls = refl; pending = refl; callers = refl; dead = refl; clean = λ q. absurd (let z : false ≡ true = q in cc); requests = refl; acts = refl; changes = refl; answered = refl }
+pub still_down : (s : History) (b : BrickNo) → b.0 < length s.weights → IsStill s (WentDown b)
+still_down s b there = record { tree = refl; weights = refl; run = refl; calls = refl; pending = refl; callers = refl; dead = refl; down = λ i l. put_other nat_eq exact_nat s.down b.0 true i (λ e. omega arith); clean = λ q. absurd (let z : false ≡ true = q in cc); requests = refl; acts = refl; changes = refl; answered = refl }
 
-pub still_up : (s : History) (b : BrickNo) → IsStill s (CameUp b)
-still_up s b = record { tree = refl; weights = refl; run = refl; calls = refl; pending = refl; callers = refl; dead = refl; clean = λ q. q; requests = refl; acts = refl; changes = refl; answered = refl }
+pub still_up : (s : History) (b : BrickNo) → b.0 < length s.weights → IsStill s (CameUp b)
+still_up s b there = record { tree = refl; weights = refl; run = refl; calls = refl; pending = refl; callers = refl; dead = refl; down = λ i l. put_other nat_eq exact_nat s.down b.0 false i (λ e. omega arith); clean = λ q. q; requests = refl; acts = refl; changes = refl; answered = refl }
 
 -- which bricks are down after a line more
 pub down_after : (past : List Line) (x : Line) (down : ℕ → Bool) → (tells (history_of past) x).down ≡ down → (history_of (past ++ x ∷ [])).down ≡ down
@@ -106,22 +107,25 @@ module _ {C : Type 0} (g : CallerGhosts C) (laws : TransitionLaws) (stable : (x 
         transition = laws.line 64 d s (claims_of g places) x fit.kept fit.early (record {
           tree = h.tree;
           weights = h.weights;
+          run = h.run;
           calls = omega arith;
           pending = λ w ne. ap (λ (f : ℕ → Option PendingCall). f w) h.pending;
           own = λ r e none. inl (record { before = r; was_it = sym (ap (λ (f : ℕ → Option PendingCall). f 64) h.pending) ∙ e; number = refl; fresh = none });
         });
-        passes = record { weights = h.weights; calls = omega arith; clean = h.clean; dead = λ w ne. ap (λ (f : ℕ → Bool). f w) h.dead };
+        passes = record { weights = h.weights; calls = omega arith; clean = h.clean; dead = λ w ne. ap (λ (f : ℕ → Bool). f w) h.dead; down = h.down };
         logged = record { steps = λ b. fit.logged.steps b ∙ sym (ap (λ f. f b) h.acts); slots = λ b. fit.logged.slots b ∙ sym (ap (λ f. f b) h.changes) };
         summary = record { run = h.run ∙ summary.run; calls = h.calls ∙ summary.calls; lines = omega arith; requests = h.requests ∙ summary.requests; answers = h.answered ∙ summary.answers; places = summary.places; fewer = omega arith; less = omega arith };
         counted = record {
-          listed = λ c r e. subst (Rattle.dht_world.specs.Clients.IsListed c) (sym h.callers) (fit.counted.listed c r (sym (ap (λ (f : ℕ → Option PendingCall). f c) h.pending) ∙ e));
+          listed = λ c r e. subst (IsListed c) (sym h.callers) (fit.counted.listed c r (sym (ap (λ (f : ℕ → Option PendingCall). f c) h.pending) ∙ e));
+          calling = λ c l. ap (λ (f : ℕ → Option PendingCall). is_some (f c)) h.pending ∙ fit.counted.calling c (subst (IsListed c) h.callers l);
           numbered = λ c r e. (let l = fit.counted.numbered c r (sym (ap (λ (f : ℕ → Option PendingCall). f c) h.pending) ∙ e) in omega arith);
           from_one = λ c r e. fit.counted.from_one c r (sym (ap (λ (f : ℕ → Option PendingCall). f c) h.pending) ∙ e);
           alone = λ c w r e first last ne. ap (λ (f : ℕ → Option PendingCall). f w) h.pending ∙ fit.counted.alone c w r (sym (ap (λ (f : ℕ → Option PendingCall). f c) h.pending) ∙ e) first (last ∙ h.calls) ne;
         };
         many = refl;
         same = λ w ne. refl;
-        own = subst (λ (o : Option (Place C)). ClientFits g d (with_line s x) (claims_of g places) 64 o) (sym (none_at places 64 (omega arith))) tt;
+        own = subst (λ (o : Option (Place C)). ClientFits g d (with_line s x) (claims_of g places) 64 o) (sym (none_at places 64 (omega arith)))
+            (ap (λ (f : ℕ → Option PendingCall). f 64) h.pending ∙ subst (ClientFits g d s (claims_of g places) 64) (none_at places 64 (omega arith)) (fit.each 64));
       }
 
   pub at_still : (d : Disk) (js : ℕ → List JournalEntry) (places : List (Place C)) (ws : List ℕ) (n : Summary) (past : List Line) (x : Line) → At g d js places ws n past → IsStill (history_of past) x → Follows (history_of past) x → (with_line (history_of past) x).owed ≡ None → InTime (history_of past) x → At g d js places ws (record n { lines = n.lines + 1 }) (past ++ x ∷ [])
@@ -132,11 +136,11 @@ module _ {C : Type 0} (g : CallerGhosts C) (laws : TransitionLaws) (stable : (x 
   pub at_refused : (d : Disk) (js : ℕ → List JournalEntry) (places : List (Place C)) (ws : List ℕ) (n : Summary) (past : List Line) (line : ℕ) (cause : Cause) → At g d js places ws n past → At g d js places ws (record n { lines = n.lines + 1 }) (past ++ Refused line cause ∷ [])
   at_refused d js places ws n past line cause h = at_still d js places ws n past (Refused line cause) h (still_refused (history_of past) line cause) h.legal.whole refl tt
 
-  pub at_down : (d : Disk) (js : ℕ → List JournalEntry) (places : List (Place C)) (ws : List ℕ) (n : Summary) (past : List Line) (b : BrickNo) → At g d js places ws n past → At g d js places ws (record n { lines = n.lines + 1 }) (past ++ WentDown b ∷ [])
-  at_down d js places ws n past b h = at_still d js places ws n past (WentDown b) h (still_down (history_of past) b) h.legal.whole refl tt
+  pub at_down : (d : Disk) (js : ℕ → List JournalEntry) (places : List (Place C)) (ws : List ℕ) (n : Summary) (past : List Line) (b : BrickNo) → b.0 < length (history_of past).weights → At g d js places ws n past → At g d js places ws (record n { lines = n.lines + 1 }) (past ++ WentDown b ∷ [])
+  at_down d js places ws n past b there h = at_still d js places ws n past (WentDown b) h (still_down (history_of past) b there) h.legal.whole refl tt
 
-  pub at_up : (d : Disk) (js : ℕ → List JournalEntry) (places : List (Place C)) (ws : List ℕ) (n : Summary) (past : List Line) (b : BrickNo) → At g d js places ws n past → At g d js places ws (record n { lines = n.lines + 1 }) (past ++ CameUp b ∷ [])
-  at_up d js places ws n past b h = at_still d js places ws n past (CameUp b) h (still_up (history_of past) b) h.legal.whole refl tt
+  pub at_up : (d : Disk) (js : ℕ → List JournalEntry) (places : List (Place C)) (ws : List ℕ) (n : Summary) (past : List Line) (b : BrickNo) → b.0 < length (history_of past).weights → At g d js places ws n past → At g d js places ws (record n { lines = n.lines + 1 }) (past ++ CameUp b ∷ [])
+  at_up d js places ws n past b there h = at_still d js places ws n past (CameUp b) h (still_up (history_of past) b there) h.legal.whole refl tt
 
   -- what is set at a client's place
   pub own_set : (e : Disk) (t : History) (places : List (Place C)) (c : ℕ) (k : Place C) → c < length places → ClientFits g e t (claims_of g (slice_set places c k)) c (Some k) → ClientFits g e t (claims_of g (slice_set places c k)) c (slice_get (slice_set places c k) c)
@@ -156,7 +160,7 @@ module _ {C : Type 0} (g : CallerGhosts C) (laws : TransitionLaws) (stable : (x 
       let within : c < length places = omega arith in
       at_by c d e js js places (slice_set places c Dead) ws n (record n { lines = n.lines + 1 }) past (Died (client c) ∷ []) h ((h.legal.whole, living), tt) refl (tt, tt) (record {
         transition = subst (λ (q : ℕ → Claim). Transition c d s (claims_of g places) e t q) (claims_set g places c Dead within) (laws.death (client c) d e s (claims_of g places) fit.kept fit.early frees);
-        passes = record { weights = refl; calls = omega arith; clean = λ q. absurd (let z : false ≡ true = q in cc); dead = λ w ne. put_other nat_eq exact_nat s.dead c true w ne };
+        passes = record { weights = refl; calls = omega arith; clean = λ q. absurd (let z : false ≡ true = q in cc); dead = λ w ne. put_other nat_eq exact_nat s.dead c true w ne; down = λ b l. refl };
         logged = record { steps = fit.logged.steps; slots = fit.logged.slots };
         summary = record { run = summary.run; calls = summary.calls; lines = omega arith; requests = summary.requests; answers = summary.answers; places = summary.places; fewer = omega arith; less = omega arith };
         counted = counted_ended s t c fit.counted refl refl refl;

@@ -17,7 +17,7 @@ use Rattle.dht_brick.specs.Rows.{row}
 use Rattle.dht_brick.specs.Within.{MayBeSent}
 use Rattle.dht_brick.specs.declared.journal.JournalEntry.{JournalEntry}
 use Rattle.dht_brick.specs.declared.requests.FileRequest.TheVariants.{Drop}
-use Rattle.dht_brick.specs.declared.requests.NameRequest.TheVariants.{Look, Dirinfo, Create, Unlink}
+use Rattle.dht_brick.specs.declared.requests.NameRequest.TheVariants.{Look, Dirinfo, Create, MakeLinkto, DropLinkto, Unlink}
 use Rattle.dht_brick.specs.declared.requests.Request.{Request}
 use Rattle.dht_brick.specs.declared.requests.Request.TheVariants.{Lock, Unlock, Seal, OnNames, OnFile}
 use Rattle.dht_brick.specs.declared.replies.Reply.{Reply}
@@ -27,7 +27,7 @@ use Rattle.dht_section.specs.Permits.{May}
 use Rattle.dht_section.specs.Scene.{Scene}
 use Rattle.dht_invariant.specs.Transition.{FreesClient}
 use Rattle.dht_world.proofs.LineLaws.{nat_cases}
-use Rattle.dht_world.specs.Bricks.{nothing, disk_of, journals_of, contents_at, journal_at, IsReady, ReadyAt, AreReady, volume_of, without_client, ServedAt}
+use Rattle.dht_world.specs.Bricks.{nothing, disk_of, journals_of, contents_at, journal_at, IsReady, ReadyAt, AreReady, volume_of, without_client, remounted_in, SomeBecame, ServedAt}
 
 pub get_set_same : {A : Type 0} (xs : List A) (c : ℕ) (v : A) → c < length xs → slice_get (slice_set xs c v) c ≡ Some v
 get_set_same [] c v h = absurd (omega arith)
@@ -88,14 +88,12 @@ ready_up volume u v b old new e h = record {
 }
 
 -- a client died
-ready_freed : (volume : VolumeInfo) (u : Bool) (b c : ℕ) (old new : BrickState) → new ≡ without_client c old → IsReady volume u b old → IsReady volume u b new
-ready_freed volume u b c old new e h = record {
-  number = ap (λ (s : BrickState). s.number) e ∙ h.number;
-  up = ap (λ (s : BrickState). s.is_up) e ∙ h.up;
-  unarmed = ap (λ (s : BrickState). s.is_armed) e ∙ h.unarmed;
-  faultless = ap (λ (s : BrickState). s.is_faultless) e ∙ h.faultless;
-  volume = ap (λ (s : BrickState). s.volume) e ∙ h.volume;
-}
+ready_freed : (volume : VolumeInfo) (u : Bool) (b c : ℕ) (s : BrickState) → IsReady volume u b s → IsReady volume u b (without_client c s)
+ready_freed volume u b c s h = record { number = h.number; up = h.up; unarmed = h.unarmed; faultless = h.faultless; volume = h.volume }
+
+-- it was mounted anew
+pub ready_remounted : (v w : VolumeInfo) (u : Bool) (b : ℕ) (s : BrickState) → IsReady v u b s → IsReady w u b (remounted_in w s)
+ready_remounted v w u b s h = record { number = h.number; up = h.up; unarmed = h.unarmed; faultless = h.faultless; volume = refl }
 
 -- ---- bricks that are ready
 
@@ -171,88 +169,11 @@ module _ {B : Type 0} (state : B → BrickState) (ws : List ℕ) (run : ℕ) whe
       let mid_ready = ready_roomy (volume_of (length bricks) ws run) (not (down i)) i (state old) (state mid) room (ready_of down bricks i old l was ready) in
       subst (λ (m : ℕ). MayBeSent m q) (e ∙ sym (ap (λ (known : VolumeInfo). length known.names) mid_ready.volume ∙ length-replay_names (length bricks))) h
 
--- ---- a client's locks were taken away everywhere
-
--- what stands at one place of two lists
-IsMapped : {B : Type 0} → (B → BrickState) → ℕ → Option B → Option B → Type 0
-IsMapped state c None None = Unit {0}
-IsMapped state c (Some x) (Some y) = state y ≡ without_client c (state x)
-IsMapped state c x y = ⊥
-
--- the first so many of these, and the others as they were
-pub freed_below : ℕ → ℕ → List BrickState → List BrickState
-freed_below c n [] = []
-freed_below c zero (x ∷ xs) = x ∷ xs
-freed_below c (suc n) (x ∷ xs) = without_client c x ∷ freed_below c n xs
+-- ---- the same happened to each brick
 
 pub length_mapped : {A X : Type 0} (f : A → X) (xs : List A) → length (map f xs) ≡ length xs
 length_mapped f [] = refl
 length_mapped f (x ∷ xs) = ap suc (length_mapped f xs)
-
-pub none_freed : (c : ℕ) (xs : List BrickState) → xs ≡ freed_below c zero xs
-unfolding freed_below
-none_freed c [] = refl
-none_freed c (x ∷ xs) = refl
-
-pub all_freed : (c n : ℕ) (xs : List BrickState) → length xs ≤ n → freed_below c n xs ≡ map (without_client c) xs
-unfolding freed_below
-all_freed c n [] l = refl
-all_freed c zero (x ∷ xs) l = absurd (omega arith)
-all_freed c (suc n) (x ∷ xs) l = ap (λ ys. without_client c x ∷ ys) (all_freed c n xs (omega arith))
-
-pub one_freed : {B : Type 0} (state : B → BrickState) (c : ℕ) (xs : List BrickState) (ys : List B) (i : ℕ) (old new : B) → i < length ys → old ≡ get_or ys i old → state new ≡ without_client c (state old) → map state ys ≡ freed_below c i xs → map state (slice_set ys i new) ≡ freed_below c (suc i) xs
-unfolding freed_below
-one_freed state c xs [] i old new l was h e = absurd (omega arith)
-one_freed state c [] (y ∷ ys) i old new l was h e = absurd (let z : suc (length (map state ys)) ≡ zero = ap length e in omega arith)
-one_freed state c (x ∷ xs) (y ∷ ys) zero old new l was h e =
-    let first : state y ≡ x = cc in
-    let rest : map state ys ≡ xs = cc in
-    (λ j. (h ∙ ap (without_client c) (ap state was ∙ first)) j ∷ (rest ∙ none_freed c xs) j)
-one_freed state c (x ∷ xs) (y ∷ ys) (suc i) old new l was h e =
-    let first : state y ≡ without_client c x = cc in
-    let rest : map state ys ≡ freed_below c i xs = cc in
-    (λ j. first j ∷ one_freed state c xs ys i old new (omega arith) was h rest j)
-
-mapped_at : {B : Type 0} (state : B → BrickState) (c : ℕ) (xs ys : List B) → map state ys ≡ map (without_client c) (map state xs) → (i : ℕ) → IsMapped state c (slice_get xs i) (slice_get ys i)
-unfolding IsMapped
-mapped_at state c [] [] e i = tt
-mapped_at state c [] (y ∷ ys) e i = absurd (let z : suc (length (map state ys)) ≡ zero = ap length e in omega arith)
-mapped_at state c (x ∷ xs) [] e i = absurd (let z : zero ≡ suc (length (map (without_client c) (map state xs))) = ap length e in omega arith)
-mapped_at state c (x ∷ xs) (y ∷ ys) e zero = let q : state y ≡ without_client c (state x) = cc in q
-mapped_at state c (x ∷ xs) (y ∷ ys) e (suc i) = mapped_at state c xs ys (let q : map state ys ≡ map (without_client c) (map state xs) = cc in q) i
-
-mapped_length : {B : Type 0} (state : B → BrickState) (c : ℕ) (xs ys : List B) → map state ys ≡ map (without_client c) (map state xs) → length ys ≡ length xs
-mapped_length state c [] [] e = refl
-mapped_length state c [] (y ∷ ys) e = absurd (let z : suc (length (map state ys)) ≡ zero = ap length e in omega arith)
-mapped_length state c (x ∷ xs) [] e = absurd (let z : zero ≡ suc (length (map (without_client c) (map state xs))) = ap length e in omega arith)
-mapped_length state c (x ∷ xs) (y ∷ ys) e = ap suc (mapped_length state c xs ys (let q : map state ys ≡ map (without_client c) (map state xs) = cc in q))
-
-contents_mapped : {B : Type 0} (state : B → BrickState) (c : ℕ) (x y : Option B) → IsMapped state c x y → (x ≢ None) → contents_at state y ≡ freed c (contents_at state x)
-unfolding IsMapped
-contents_mapped state c None None h ne = absurd (ne refl)
-contents_mapped state c None (Some y) h ne = absurd h
-contents_mapped state c (Some x) None h ne = absurd h
-contents_mapped state c (Some x) (Some y) h ne = ap (λ (s : BrickState). s.contents) h
-
-none_mapped : {B : Type 0} (state : B → BrickState) (c : ℕ) (x y : Option B) → IsMapped state c x y → x ≡ None → contents_at state y ≡ contents_at state x
-unfolding IsMapped
-none_mapped state c None None h e = refl
-none_mapped state c None (Some y) h e = absurd h
-none_mapped state c (Some x) y h e = absurd (let z : Some x ≡ None = e in cc)
-
-journal_mapped : {B : Type 0} (state : B → BrickState) (c : ℕ) (x y : Option B) → IsMapped state c x y → journal_at state y ≡ journal_at state x
-unfolding IsMapped
-journal_mapped state c None None h = refl
-journal_mapped state c None (Some y) h = absurd h
-journal_mapped state c (Some x) None h = absurd h
-journal_mapped state c (Some x) (Some y) h = ap (λ (s : BrickState). s.journal) h
-
-ready_mapped : {B : Type 0} (state : B → BrickState) (c : ℕ) (volume : VolumeInfo) (u : Bool) (b : ℕ) (x y : Option B) → IsMapped state c x y → ReadyAt state volume u b x → ReadyAt state volume u b y
-unfolding IsMapped
-ready_mapped state c volume u b None None h r = tt
-ready_mapped state c volume u b None (Some y) h r = absurd h
-ready_mapped state c volume u b (Some x) None h r = absurd h
-ready_mapped state c volume u b (Some x) (Some y) h r = ready_freed volume u b c (state x) (state y) h r
 
 pub there_is : {B : Type 0} (xs : List B) (i : ℕ) → i < length xs → slice_get xs i ≢ None
 there_is [] i l = absurd (omega arith)
@@ -264,20 +185,132 @@ none_at [] c l = refl
 none_at (x ∷ xs) zero l = absurd (omega arith)
 none_at (x ∷ xs) (suc c) l = none_at xs c (omega arith)
 
+-- what happened to a brick
+module _ (f : BrickState → BrickState) where
+  -- it happened to the first so many of these, and the others are as they were
+  pub first_mapped : ℕ → List BrickState → List BrickState
+  first_mapped n [] = []
+  first_mapped zero (x ∷ xs) = x ∷ xs
+  first_mapped (suc n) (x ∷ xs) = f x ∷ first_mapped n xs
+
+  pub none_mapped : (xs : List BrickState) → xs ≡ first_mapped zero xs
+  unfolding first_mapped
+  none_mapped [] = refl
+  none_mapped (x ∷ xs) = refl
+
+  pub all_mapped : (n : ℕ) (xs : List BrickState) → length xs ≤ n → first_mapped n xs ≡ map f xs
+  unfolding first_mapped
+  all_mapped n [] l = refl
+  all_mapped zero (x ∷ xs) l = absurd (omega arith)
+  all_mapped (suc n) (x ∷ xs) l = ap (λ ys. f x ∷ ys) (all_mapped n xs (omega arith))
+
+  pub none_became : (xs : List BrickState) → SomeBecame f xs xs
+  none_became [] = tt
+  none_became (x ∷ xs) = (inl refl, none_became xs)
+
+  pub some_mapped : (n : ℕ) (xs : List BrickState) → SomeBecame f xs (first_mapped n xs)
+  unfolding first_mapped
+  some_mapped n [] = tt
+  some_mapped zero (x ∷ xs) = (inl refl, none_became xs)
+  some_mapped (suc n) (x ∷ xs) = (inr refl, some_mapped n xs)
+
+  module _ {B : Type 0} (state : B → BrickState) where
+    pub one_mapped : (xs : List BrickState) (ys : List B) (i : ℕ) (old new : B) → i < length ys → old ≡ get_or ys i old → state new ≡ f (state old) → map state ys ≡ first_mapped i xs → map state (slice_set ys i new) ≡ first_mapped (suc i) xs
+    unfolding first_mapped
+    one_mapped xs [] i old new l was h e = absurd (omega arith)
+    one_mapped [] (y ∷ ys) i old new l was h e = absurd (let z : suc (length (map state ys)) ≡ zero = ap length e in omega arith)
+    one_mapped (x ∷ xs) (y ∷ ys) zero old new l was h e =
+        let first : state y ≡ x = cc in
+        let rest : map state ys ≡ xs = cc in
+        (λ j. (h ∙ ap f (ap state was ∙ first)) j ∷ (rest ∙ none_mapped xs) j)
+    one_mapped (x ∷ xs) (y ∷ ys) (suc i) old new l was h e =
+        let first : state y ≡ f x = cc in
+        let rest : map state ys ≡ first_mapped i xs = cc in
+        (λ j. first j ∷ one_mapped xs ys i old new (omega arith) was h rest j)
+
+    -- the next brick is as it was
+    next_state : (xs : List BrickState) (ys : List B) (i : ℕ) (old : B) → i < length ys → old ≡ get_or ys i old → map state ys ≡ first_mapped i xs → slice_get xs i ≡ Some (state old)
+    unfolding first_mapped
+    next_state xs [] i old l was e = absurd (omega arith)
+    next_state [] (y ∷ ys) i old l was e = absurd (let z : suc (length (map state ys)) ≡ zero = ap length e in omega arith)
+    next_state (x ∷ xs) (y ∷ ys) zero old l was e = let first : state y ≡ x = cc in ap (λ (s : BrickState). Some s) (sym (ap state was ∙ first))
+    next_state (x ∷ xs) (y ∷ ys) (suc i) old l was e = let rest : map state ys ≡ first_mapped i xs = cc in next_state xs ys i old (omega arith) was rest
+
+    ready_state : (v : VolumeInfo) (u : Bool) (b : ℕ) (xs : List B) (i : ℕ) (s : BrickState) → slice_get (map state xs) i ≡ Some s → ReadyAt state v u b (slice_get xs i) → IsReady v u b s
+    ready_state v u b [] i s e h = absurd (let z : None ≡ Some s = e in cc)
+    ready_state v u b (x ∷ xs) zero s e h = subst (IsReady v u b) (let z : Some (state x) ≡ Some s = e in let q : state x ≡ s = cc in q) h
+    ready_state v u b (x ∷ xs) (suc i) s e h = ready_state v u b xs i s e h
+
+    pub next_ready : (ws : List ℕ) (run : ℕ) (down : ℕ → Bool) (xs ys : List B) (i : ℕ) (old : B) → i < length ys → old ≡ get_or ys i old → map state ys ≡ first_mapped i (map state xs) → AreReady state ws run down xs → IsReady (volume_of (length xs) ws run) (not (down i)) i (state old)
+    next_ready ws run down xs ys i old l was e h = ready_state (volume_of (length xs) ws run) (not (down i)) i xs i (state old) (next_state (map state xs) ys i old l was e) (h i)
+
+    -- what stands at one place of two lists, where it happened to all
+    pub IsMapped : Option B → Option B → Type 0
+    IsMapped None None = Unit {0}
+    IsMapped (Some x) (Some y) = state y ≡ f (state x)
+    IsMapped x y = ⊥
+
+    pub mapped_at : (xs ys : List B) → map state ys ≡ map f (map state xs) → (i : ℕ) → IsMapped (slice_get xs i) (slice_get ys i)
+    unfolding IsMapped
+    mapped_at [] [] e i = tt
+    mapped_at [] (y ∷ ys) e i = absurd (let z : suc (length (map state ys)) ≡ zero = ap length e in omega arith)
+    mapped_at (x ∷ xs) [] e i = absurd (let z : zero ≡ suc (length (map f (map state xs))) = ap length e in omega arith)
+    mapped_at (x ∷ xs) (y ∷ ys) e zero = let q : state y ≡ f (state x) = cc in q
+    mapped_at (x ∷ xs) (y ∷ ys) e (suc i) = mapped_at xs ys (let q : map state ys ≡ map f (map state xs) = cc in q) i
+
+    pub mapped_length : (xs ys : List B) → map state ys ≡ map f (map state xs) → length ys ≡ length xs
+    mapped_length [] [] e = refl
+    mapped_length [] (y ∷ ys) e = absurd (let z : suc (length (map state ys)) ≡ zero = ap length e in omega arith)
+    mapped_length (x ∷ xs) [] e = absurd (let z : zero ≡ suc (length (map f (map state xs))) = ap length e in omega arith)
+    mapped_length (x ∷ xs) (y ∷ ys) e = ap suc (mapped_length xs ys (let q : map state ys ≡ map f (map state xs) = cc in q))
+
+    pub contents_mapped : (becomes : Contents → Contents) → ((s : BrickState) → (f s).contents ≡ becomes s.contents) → (x y : Option B) → IsMapped x y → (x ≢ None) → contents_at state y ≡ becomes (contents_at state x)
+    unfolding IsMapped
+    contents_mapped becomes k None None h ne = absurd (ne refl)
+    contents_mapped becomes k None (Some y) h ne = absurd h
+    contents_mapped becomes k (Some x) None h ne = absurd h
+    contents_mapped becomes k (Some x) (Some y) h ne = ap (λ (s : BrickState). s.contents) h ∙ k (state x)
+
+    nothing_mapped : (x y : Option B) → IsMapped x y → x ≡ None → contents_at state y ≡ contents_at state x
+    unfolding IsMapped
+    nothing_mapped None None h e = refl
+    nothing_mapped None (Some y) h e = absurd h
+    nothing_mapped (Some x) y h e = absurd (let z : Some x ≡ None = e in cc)
+
+    journal_mapped : ((s : BrickState) → (f s).journal ≡ s.journal) → (x y : Option B) → IsMapped x y → journal_at state y ≡ journal_at state x
+    unfolding IsMapped
+    journal_mapped k None None h = refl
+    journal_mapped k None (Some y) h = absurd h
+    journal_mapped k (Some x) None h = absurd h
+    journal_mapped k (Some x) (Some y) h = ap (λ (s : BrickState). s.journal) h ∙ k (state x)
+
+    pub journals_mapped : ((s : BrickState) → (f s).journal ≡ s.journal) → (xs ys : List B) → map state ys ≡ map f (map state xs) → journals_of state ys ≡ journals_of state xs
+    journals_mapped k xs ys e = λ i. λ b. journal_mapped k (slice_get xs b) (slice_get ys b) (mapped_at xs ys e b) i
+
+    pub ready_mapped : (v w : VolumeInfo) (u : Bool) (b : ℕ) → ((s : BrickState) → IsReady v u b s → IsReady w u b (f s)) → (x y : Option B) → IsMapped x y → ReadyAt state v u b x → ReadyAt state w u b y
+    unfolding IsMapped
+    ready_mapped v w u b k None None h r = tt
+    ready_mapped v w u b k None (Some y) h r = absurd h
+    ready_mapped v w u b k (Some x) None h r = absurd h
+    ready_mapped v w u b k (Some x) (Some y) h r = subst (IsReady w u b) (sym h) (k (state x) r)
+
+-- ---- a client's locks were taken away everywhere
+
 pub frees : {B : Type 0} (state : B → BrickState) (c : ℕ) (xs ys : List B) → map state ys ≡ map (without_client c) (map state xs) → FreesClient c (disk_of state xs) (disk_of state ys)
 frees state c xs ys e = record {
-  count = mapped_length state c xs ys e;
-  there = λ b l. contents_mapped state c (slice_get xs b) (slice_get ys b) (mapped_at state c xs ys e b) (there_is xs b l);
-  elsewhere = λ b l. none_mapped state c (slice_get xs b) (slice_get ys b) (mapped_at state c xs ys e b) (none_at xs b l);
+  count = mapped_length (without_client c) state xs ys e;
+  there = λ b l. contents_mapped (without_client c) state (freed c) (λ s. refl) (slice_get xs b) (slice_get ys b) (mapped_at (without_client c) state xs ys e b) (there_is xs b l);
+  elsewhere = λ b l. nothing_mapped (without_client c) state (slice_get xs b) (slice_get ys b) (mapped_at (without_client c) state xs ys e b) (none_at xs b l);
 }
 
 pub freed_journals : {B : Type 0} (state : B → BrickState) (c : ℕ) (xs ys : List B) → map state ys ≡ map (without_client c) (map state xs) → journals_of state ys ≡ journals_of state xs
-freed_journals state c xs ys e = λ i. λ b. journal_mapped state c (slice_get xs b) (slice_get ys b) (mapped_at state c xs ys e b) i
+freed_journals state c xs ys e = journals_mapped (without_client c) state (λ s. refl) xs ys e
 
 pub freed_ready : {B : Type 0} (state : B → BrickState) (ws : List ℕ) (run : ℕ) (down : ℕ → Bool) (c : ℕ) (xs ys : List B) → map state ys ≡ map (without_client c) (map state xs) → AreReady state ws run down xs → AreReady state ws run down ys
 freed_ready state ws run down c xs ys e h b =
-    subst (λ (n : ℕ). ReadyAt state (volume_of n ws run) (not (down b)) b (slice_get ys b)) (sym (mapped_length state c xs ys e))
-    (ready_mapped state c (volume_of (length xs) ws run) (not (down b)) b (slice_get xs b) (slice_get ys b) (mapped_at state c xs ys e b) (h b))
+    let volume = volume_of (length xs) ws run in
+    subst (λ (n : ℕ). ReadyAt state (volume_of n ws run) (not (down b)) b (slice_get ys b)) (sym (mapped_length (without_client c) state xs ys e))
+    (ready_mapped (without_client c) state volume volume (not (down b)) b (λ s r. ready_freed volume (not (down b)) b c s r) (slice_get xs b) (slice_get ys b) (mapped_at (without_client c) state xs ys e b) (h b))
 
 -- one brick was set to another with the same contents, or the same journal
 shows_disk : {B : Type 0} (state : B → BrickState) (bricks : List B) (b : ℕ) (old new : B) → b < length bricks → old ≡ get_or bricks b old → (state new).contents ≡ (state old).contents → disk_of state (slice_set bricks b new) ≡ disk_of state bricks
@@ -319,6 +352,8 @@ may_be_sent s b count (Unlock key) h = tt
 may_be_sent s b count (OnNames (Look d n)) h = tt
 may_be_sent s b count (OnNames (Dirinfo d)) h = tt
 may_be_sent s b count (OnNames (Create d n f)) h = tt
+may_be_sent s b count (OnNames (MakeLinkto d n value)) h = h.1.also.0
+may_be_sent s b count (OnNames (DropLinkto d n)) h = tt
 may_be_sent s b count (OnNames (Unlink d n f)) h = tt
 may_be_sent s b count (OnNames q) h = absurd h.0
 may_be_sent s b count (OnFile (Drop f)) h = tt

@@ -83,7 +83,7 @@ module _ {C : Type 0} (g : CallerGhosts C) where
     works_on d e s t p q c w k n false ne tr ps counted h = tr.pending w ne ∙ h
 
     client_on : (d e : Disk) (s t : History) (p q : ℕ → Claim) (c w : ℕ) (o : Option (Place C)) → w ≢ c → Transition c d s p e t q → Passes c s t → CallsCounted s → ClientFits g d s p w o → ClientFits g e t q w o
-    client_on d e s t p q c w None ne tr ps counted h = tt
+    client_on d e s t p q c w None ne tr ps counted h = tr.pending w ne ∙ h
     client_on d e s t p q c w (Some Dead) ne tr ps counted h = (ps.dead w ne ∙ h.0, tr.pending w ne ∙ h.1)
     client_on d e s t p q c w (Some (Living k n)) ne tr ps counted h = (ps.dead w ne ∙ h.0, h.1, works_on d e s t p q c w k n (g.is_busy k) ne tr ps counted h.2)
 
@@ -93,6 +93,7 @@ module _ {C : Type 0} (g : CallerGhosts C) where
       early = h.transition.early;
       logged = h.logged;
       same_weights = h.passes.weights ∙ fit.same_weights;
+      up_above = λ b l. h.passes.down b (let bricks : length s.weights ≡ length ws = ap (λ (xs : List ℕ). length xs) fit.same_weights in omega arith) ∙ fit.up_above b l;
       summary = h.summary;
       counted = h.counted;
       many = h.many ∙ fit.many;

@@ -1,6 +1,6 @@
 -- The pending calls as the history counts them: what each kind of line leaves of it.
-use Rattle.std.proofs.Common.{◌≡◌, ◌≢◌, ◌≤◌, ◌+◌, ◌⊎◌, ℕ, Bool, true, false, List, [], ◌∷◌, refl, sym, ap, ◌∙◌, subst, inl, inr, arith}
-use Rattle.std.specs.Prelude.{Option, Some, None, nat_eq, if◌then◌else◌}
+use Rattle.std.proofs.Common.{◌≡◌, ◌≢◌, ◌≤◌, ◌+◌, ◌⊎◌, ℕ, Bool, true, false, List, [], ◌∷◌, refl, sym, ap, ◌∙◌, subst, inl, inr, length, arith}
+use Rattle.std.specs.Prelude.{Option, Some, None, is_some, nat_eq, if◌then◌else◌}
 use Rattle.dht_types.specs.Put.{put}
 use Rattle.dht_types.proofs.PutLaws.{put_same, put_other, exact_nat}
 use Rattle.dht_types.specs.History.{History, PendingCall, IsUndisturbed, accepted, without, is_empty, with_line}
@@ -30,7 +30,7 @@ put_is f k v x m e = elim (nat_cases m k) [
 
 -- ---- the clients of a list
 
-not_empty : (c : ℕ) (xs : List ℕ) → IsListed c xs → is_empty xs ≡ true → ⊥
+pub not_empty : (c : ℕ) (xs : List ℕ) → IsListed c xs → is_empty xs ≡ true → ⊥
 not_empty c [] h e = h
 not_empty c (x ∷ xs) h e = let z : false ≡ true = e in cc
 
@@ -48,6 +48,24 @@ listed_without : (c : ℕ) (xs : List ℕ) (w : ℕ) → w ≢ c → IsListed w 
 listed_without c [] w ne h = h
 listed_without c (x ∷ xs) w ne h = keep_if c x xs (nat_eq x c) refl w ne h (λ l. listed_without c xs w ne l)
 
+drop_if : (c x : ℕ) (xs : List ℕ) (v : Bool) → nat_eq x c ≡ v → (w : ℕ) → IsListed w (if v then without c xs else x ∷ without c xs) → (IsListed w (without c xs) → (w ≢ c) × IsListed w xs) → (w ≢ c) × ((x ≡ w) ⊎ IsListed w xs)
+drop_if c x xs true e w h more = (let m = more h in (m.0, inr m.1))
+drop_if c x xs false e w h more = elim h [
+  | inl q ↦ (λ k. (let z : true ≡ false = sym ((exact_nat x c).1 (q ∙ k)) ∙ e in cc), inl q)
+  | inr l ↦ (let m = more l in (m.0, inr m.1))
+]
+
+listed_still : (c : ℕ) (xs : List ℕ) (w : ℕ) → IsListed w (without c xs) → (w ≢ c) × IsListed w xs
+listed_still c [] w h = absurd h
+listed_still c (x ∷ xs) w h = drop_if c x xs (nat_eq x c) refl w h (listed_still c xs w)
+
+-- a client has a call where something was put, or had one elsewhere
+calls_put : (f g : ℕ → Option PendingCall) (c : ℕ) (new : PendingCall) (w : ℕ) → g ≡ put nat_eq f c (Some new) → (w ≢ c → is_some (f w) ≡ true) → is_some (g w) ≡ true
+calls_put f g c new w e h = elim (nat_cases w c) [
+  | inl q ↦ ap is_some (ap g q ∙ (ap (λ (k : ℕ → Option PendingCall). k c) e ∙ put_same nat_eq exact_nat f c (Some new)))
+  | inr ne ↦ ap is_some (ap (λ (k : ℕ → Option PendingCall). k w) e ∙ put_other nat_eq exact_nat f c (Some new) w ne) ∙ h ne
+]
+
 -- ---- a call ended, by its answer or its client's death
 
 pub counted_ended : (s t : History) (c : ℕ) → CallsCounted s → t.pending ≡ put nat_eq s.pending c None → t.callers ≡ without c s.callers → t.calls ≡ s.calls → CallsCounted t
@@ -59,6 +77,8 @@ counted_ended s t c h pending callers calls =
     ]) in
     record {
       listed = λ w r e. subst (IsListed w) (sym callers) (listed_without c s.callers w (was w r e).0 (h.listed w r (was w r e).1));
+      calling = λ w l. (let still = listed_still c s.callers w (subst (IsListed w) callers l) in
+          ap is_some (ap (λ (f : ℕ → Option PendingCall). f w) pending ∙ put_other nat_eq exact_nat s.pending c None w still.0) ∙ h.calling w still.1);
       numbered = λ w r e. (let l = h.numbered w r (was w r e).1 in omega arith);
       from_one = λ w r e. h.from_one w r (was w r e).1;
       alone = λ x w r e first last ne. none_if (t.pending w) (λ q m. not_none (s.pending w) q (h.alone x w r (was x r e).1 first (last ∙ calls) ne) (was w q m).1);
@@ -78,6 +98,10 @@ counted_called s c k call h ek =
         | inl q ↦ inl (sym q.0)
         | inr q ↦ inr (h.listed w r q.1)
       ];
+      calling = λ w l. calls_put s.pending t.pending c new w refl (λ ne. elim l [
+        | inl q ↦ absurd (ne (sym q))
+        | inr m ↦ h.calling w m
+      ]);
       numbered = λ w r e. elim (cases w r e) [
         | inl q ↦ (let z : new ≡ r = (let y : Some new ≡ Some r = q.1 in cc) in let l : k ≡ r.number.0 = ap (λ (x : PendingCall). x.number.0) z in omega arith)
         | inr q ↦ (let l = h.numbered w r q.1 in omega arith)
@@ -115,6 +139,7 @@ counted_went s t c mine new h runs pending callers calls number alone =
     ]) in
     record {
       listed = λ w r e. subst (IsListed w) (sym callers) (h.listed w (was w r e).0 (was w r e).1);
+      calling = λ w l. calls_put s.pending t.pending c new w pending (λ ne. h.calling w (subst (IsListed w) callers l));
       numbered = λ w r e. (let b = was w r e in let l = h.numbered w b.0 b.1 in let n = b.2 in omega arith);
       from_one = λ w r e. (let b = was w r e in let l = h.from_one w b.0 b.1 in let n = b.2 in omega arith);
       alone = λ x w r e first last ne. (let b = was x r e in
@@ -123,12 +148,13 @@ counted_went s t c mine new h runs pending callers calls number alone =
 
 -- ---- a call that was not disturbed
 
--- what happened is no less
+-- what happened is no less, and what is no brick went not down
 pub record Passes (c : ℕ) (s t : History) : Type 0 where
   pub weights : t.weights ≡ s.weights
   pub calls : s.calls ≤ t.calls
   pub clean : t.clean ≡ true → s.clean ≡ true
   pub dead : (w : ℕ) → w ≢ c → t.dead w ≡ s.dead w
+  pub down : (b : ℕ) → length s.weights ≤ b → t.down b ≡ s.down b
 
 -- a call that was not disturbed by then was not before
 pub undisturbed_before : (c : ℕ) (s t : History) (r q : PendingCall) → Passes c s t → r.number.0 ≤ s.calls → q.number.0 ≡ r.number.0 → q.alone ≡ r.alone → IsUndisturbed t q → IsUndisturbed s r
@@ -146,4 +172,5 @@ passes_on c s t u p q =
       calls = omega arith;
       clean = λ h. p.clean (q.clean h);
       dead = λ w ne. q.dead w ne ∙ p.dead w ne;
+      down = λ i l. q.down i (let bricks : length t.weights ≡ length s.weights = ap (λ (ws : List ℕ). length ws) p.weights in omega arith) ∙ p.down i l;
     }

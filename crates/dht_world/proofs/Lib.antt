@@ -1,5 +1,7 @@
 pub mod BrickLaws
 pub mod LineLaws
+pub mod NewbornLaws
+pub mod MountLaws
 pub mod AnsweredLaws
 pub mod RefusalLaws
 pub mod CountLaws
@@ -11,6 +13,7 @@ pub mod AdvanceLaws
 pub mod BlockLaws
 pub mod CauseLaws
 pub mod StartLaws
+pub mod RemountLaws
 pub mod PlaceLaws
 pub mod ReplyLaws
 pub mod SpentLaws

@@ -27,7 +27,7 @@ use Rattle.dht_invariant.specs.Laws.{TransitionLaws}
 use Rattle.dht_world.specs.Answers.{answered_in}
 use Rattle.dht_world.specs.Bricks.{disk_of, journals_of, AreReady, without_client}
 use Rattle.dht_world.specs.Clients.{client, IsIdle, Starts}
-use Rattle.dht_world.specs.Following.{Block, Accepted, cause_of, call_cause, step_cause, refusal_point}
+use Rattle.dht_world.specs.Following.{Block, Accepted, cause_of, brick_cause, call_cause, step_cause, refusal_point}
 use Rattle.dht_world.specs.Places.{IsAt, Advances, Adds, summary_of}
 use Rattle.dht_world.specs.World.{At}
 use Rattle.dht_world.specs.declared.events.World.{World}
@@ -139,17 +139,17 @@ module _ {B C : Type 0} (b : BrickGhosts B) (g : CallerGhosts C) where
         (freed_ready b.state w.weights w.run (history_of past).down c w.bricks.items bricks freed at.ready)
 
     -- a brick went down, or came back
-    pub down_at : (w : World B C) (past : List Line) (i : ℕ) (x : BrickNo) (old new : B) → IsAt b g w past → i < length w.bricks.items → old ≡ get_or w.bricks.items i old → b.state new ≡ record (b.state old) { is_up = false } → At g (disk_of b.state (slice_set w.bricks.items i new)) (journals_of b.state (slice_set w.bricks.items i new)) w.clients.items w.weights (record (summary_of w) { lines = w.lines + 1 }) (past ++ WentDown x ∷ [])
-    down_at w past i x old new at l was set =
+    pub down_at : (w : World B C) (past : List Line) (i : ℕ) (x : BrickNo) (old new : B) → IsAt b g w past → brick_cause (history_of past) x.0 ≡ None → i < length w.bricks.items → old ≡ get_or w.bricks.items i old → b.state new ≡ record (b.state old) { is_up = false } → At g (disk_of b.state (slice_set w.bricks.items i new)) (journals_of b.state (slice_set w.bricks.items i new)) w.clients.items w.weights (record (summary_of w) { lines = w.lines + 1 }) (past ++ WentDown x ∷ [])
+    down_at w past i x old new at accepted l was set =
         subst (λ d. At g d (journals_of b.state (slice_set w.bricks.items i new)) w.clients.items w.weights (record (summary_of w) { lines = w.lines + 1 }) (past ++ WentDown x ∷ [])) (sym (up_disk_at b.state w.bricks.items i old new false l was set))
         (subst (λ js. At g (disk_of b.state w.bricks.items) js w.clients.items w.weights (record (summary_of w) { lines = w.lines + 1 }) (past ++ WentDown x ∷ [])) (sym (up_journals_at b.state w.bricks.items i old new false l was set))
-        (at_down g laws stable (disk_of b.state w.bricks.items) (journals_of b.state w.bricks.items) w.clients.items w.weights (summary_of w) past x at.led))
+        (at_down g laws stable (disk_of b.state w.bricks.items) (journals_of b.state w.bricks.items) w.clients.items w.weights (summary_of w) past x (accepted_brick g (history_of past) x.0 accepted) at.led))
 
-    pub up_at : (w : World B C) (past : List Line) (i : ℕ) (x : BrickNo) (old new : B) → IsAt b g w past → i < length w.bricks.items → old ≡ get_or w.bricks.items i old → b.state new ≡ record (b.state old) { is_up = true } → At g (disk_of b.state (slice_set w.bricks.items i new)) (journals_of b.state (slice_set w.bricks.items i new)) w.clients.items w.weights (record (summary_of w) { lines = w.lines + 1 }) (past ++ CameUp x ∷ [])
-    up_at w past i x old new at l was set =
+    pub up_at : (w : World B C) (past : List Line) (i : ℕ) (x : BrickNo) (old new : B) → IsAt b g w past → brick_cause (history_of past) x.0 ≡ None → i < length w.bricks.items → old ≡ get_or w.bricks.items i old → b.state new ≡ record (b.state old) { is_up = true } → At g (disk_of b.state (slice_set w.bricks.items i new)) (journals_of b.state (slice_set w.bricks.items i new)) w.clients.items w.weights (record (summary_of w) { lines = w.lines + 1 }) (past ++ CameUp x ∷ [])
+    up_at w past i x old new at accepted l was set =
         subst (λ d. At g d (journals_of b.state (slice_set w.bricks.items i new)) w.clients.items w.weights (record (summary_of w) { lines = w.lines + 1 }) (past ++ CameUp x ∷ [])) (sym (up_disk_at b.state w.bricks.items i old new true l was set))
         (subst (λ js. At g (disk_of b.state w.bricks.items) js w.clients.items w.weights (record (summary_of w) { lines = w.lines + 1 }) (past ++ CameUp x ∷ [])) (sym (up_journals_at b.state w.bricks.items i old new true l was set))
-        (at_up g laws stable (disk_of b.state w.bricks.items) (journals_of b.state w.bricks.items) w.clients.items w.weights (summary_of w) past x at.led))
+        (at_up g laws stable (disk_of b.state w.bricks.items) (journals_of b.state w.bricks.items) w.clients.items w.weights (summary_of w) past x (accepted_brick g (history_of past) x.0 accepted) at.led))
 
     pub down_ready : (w : World B C) (past : List Line) (i : ℕ) (x : BrickNo) (old new : B) → IsAt b g w past → i ≡ x.0 → i < length w.bricks.items → old ≡ get_or w.bricks.items i old → b.state new ≡ record (b.state old) { is_up = false } → AreReady b.state w.weights w.run (history_of (past ++ WentDown x ∷ [])).down (slice_set w.bricks.items i new)
     down_ready w past i x old new at ei l was set =
@@ -162,7 +162,7 @@ module _ {B C : Type 0} (b : BrickGhosts B) (g : CallerGhosts C) where
         (ready_down b.state w.weights w.run (history_of past).down w.bricks.items i old new true l was set at.ready)
 
   -- the brick of an event that is accepted is there
-  pub brick_there : (w : World B C) (past : List Line) (x : ℕ) → IsAt b g w past → Rattle.dht_world.specs.Following.brick_cause (history_of past) x ≡ None → x < length w.bricks.items
+  pub brick_there : (w : World B C) (past : List Line) (x : ℕ) → IsAt b g w past → brick_cause (history_of past) x ≡ None → x < length w.bricks.items
   brick_there w past x at accepted =
       let l = accepted_brick g (history_of past) x accepted in
       let count = at.led.fit.kept.counted in

@@ -186,6 +186,7 @@ module _ {C : Type 0} (g : CallerGhosts C) (laws : TransitionLaws) (stable : (x 
     one = laws.line c d s p called h.fit.kept h.fit.early (record {
       tree = refl;
       weights = refl;
+      run = refl;
       calls = omega arith;
       pending = λ w ne. put_other nat_eq exact_nat s.pending c (Some mine) w ne;
       own = λ o e fresh. inr (let count = h.fit.summary.calls in let z : mine ≡ o = (let y : Some mine ≡ Some o = sym runs ∙ e in cc) in let y : k.0 ≡ o.number.0 = ap (λ (q : PendingCall). q.number.0) z in omega arith);
@@ -212,7 +213,7 @@ module _ {C : Type 0} (g : CallerGhosts C) (laws : TransitionLaws) (stable : (x 
         let set : put nat_eq p c (g.stage v.after).claims ≡ claims_of g (slice_set places c new) = ap (put nat_eq p c) (sym claims ∙ ap (λ (y : Place C). claim_at g (Some y)) (sym v.is)) ∙ claims_set g places c new within in
         at_by g laws stable c d d js js places (slice_set places c new) ws n (with_call n (n.lines + 1)) past (called ∷ []) h ((h.legal.whole, omega arith, none), tt) refl (tt, tt) (record {
           transition = subst (λ (q : ℕ → Claim). Transition c d s p d t q) set both;
-          passes = record { weights = refl; calls = omega arith; clean = λ q. q; dead = λ w ne. refl };
+          passes = record { weights = refl; calls = omega arith; clean = λ q. q; dead = λ w ne. refl; down = λ b l. refl };
           logged = record { steps = fit.logged.steps; slots = fit.logged.slots };
           summary = record { run = summary.run; calls = omega arith; lines = omega arith; requests = summary.requests; answers = summary.answers ∙ answered_more n.answers; places = length-append n.answers (None ∷ []) ∙ omega arith; fewer = omega arith; less = omega arith };
           counted = counted_called s c k.0 what fit.counted (omega arith);
@@ -251,6 +252,7 @@ module _ {C : Type 0} (g : CallerGhosts C) (laws : TransitionLaws) (stable : (x 
         let two = laws.line c d t p answer one.kept one.early (record {
           tree = refl;
           weights = refl;
+          run = refl;
           calls = omega arith;
           pending = λ w ne. put_other nat_eq exact_nat t.pending c None w ne;
           own = λ o q fresh. absurd (let z : None ≡ Some o = sym (put_same nat_eq exact_nat t.pending c None) ∙ q in cc);
@@ -266,7 +268,7 @@ module _ {C : Type 0} (g : CallerGhosts C) (laws : TransitionLaws) (stable : (x 
         at_by g laws stable c d d js js places (slice_set places c new) ws n (with_call n (n.lines + 1 + 1)) past (called ∷ answer ∷ []) h
         ((h.legal.whole, omega arith, none), ((refl, (mine, record { runs = runs; number = refl }, answers, may.1)), tt)) refl (tt, (tt, tt)) (record {
           transition = subst (λ (q : ℕ → Claim). Transition c d s p d u q) set both;
-          passes = record { weights = refl; calls = omega arith; clean = and_first s.clean _; dead = λ w ne. refl };
+          passes = record { weights = refl; calls = omega arith; clean = and_first s.clean _; dead = λ w ne. refl; down = λ b l. refl };
           logged = record { steps = fit.logged.steps; slots = fit.logged.slots };
           summary = record {
             run = summary.run;

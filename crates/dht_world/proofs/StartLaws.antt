@@ -37,13 +37,13 @@ meet ws d new heavy count some few = (new_invariant ws d new some heavy count fe
 
 module _ {C : Type 0} (g : CallerGhosts C) where
   -- new clients claim nothing
-  new_claim : (c : ℕ) (o : Option (Place C)) → IsNewAt g c o → claim_at g o ≡ no_claim
+  pub new_claim : (c : ℕ) (o : Option (Place C)) → IsNewAt g c o → claim_at g o ≡ no_claim
   new_claim c None h = refl
   new_claim c (Some Dead) h = absurd h
   new_claim c (Some (Living x n)) h = ap (λ (b : Bool). if b then (g.stage x).claims else no_claim) h.1
 
-  new_fits : (d : Disk) (s : History) (p : ℕ → Claim) (c : ℕ) (o : Option (Place C)) → s.dead c ≡ false → s.pending c ≡ None → IsNewAt g c o → ClientFits g d s p c o
-  new_fits d s p c None living none h = tt
+  pub new_fits : (d : Disk) (s : History) (p : ℕ → Claim) (c : ℕ) (o : Option (Place C)) → s.dead c ≡ false → s.pending c ≡ None → IsNewAt g c o → ClientFits g d s p c o
+  new_fits d s p c None living none h = none
   new_fits d s p c (Some Dead) living none h = absurd h
   new_fits d s p c (Some (Living x n)) living none h = (living, h.0, subst (λ (b : Bool). MatchBool b (Works g d s p c x n) (s.pending c ≡ None)) (sym h.1) none)
 
@@ -61,9 +61,11 @@ module _ {C : Type 0} (g : CallerGhosts C) where
           early = new.1;
           logged = record { steps = λ b. ap (map act_of) (h.journals b); slots = λ b. ap changed_slots (h.journals b) };
           same_weights = refl;
+          up_above = λ b l. refl;
           summary = record { run = refl; calls = refl; lines = refl; requests = refl; answers = none_answered; places = refl; fewer = omega arith; less = omega arith };
           counted = record {
             listed = λ c r e. absurd (not_none (s.pending c) r refl e);
+            calling = λ c l. absurd l;
             numbered = λ c r e. absurd (not_none (s.pending c) r refl e);
             from_one = λ c r e. absurd (not_none (s.pending c) r refl e);
             alone = λ c w r e first last ne. refl;

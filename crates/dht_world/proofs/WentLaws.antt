@@ -193,7 +193,7 @@ module _ (d : Disk) (js : ℕ → List JournalEntry) (s : History) (p : ℕ → 
           client = h.client;
         };
         counted = counted_went s t c.0 mine more_steps h.counted h.runs pending refl refl refl refl;
-        passes = record { weights = refl; calls = omega arith; clean = and_first s.clean _; dead = λ w ne. refl };
+        passes = record { weights = refl; calls = omega arith; clean = and_first s.clean _; dead = λ w ne. refl; down = λ b l. refl };
         owed = ap (λ (b : Bool). owed_if b (record { call = k; client = c; brick = a.brick.0; request = kind_of a.request })) change;
         logged = record {
           steps = λ b. ap (λ (f : ℕ → List JournalEntry). map act_of (f b)) h.journals
@@ -307,7 +307,7 @@ module _ (d : Disk) (js : ℕ → List JournalEntry) (s : History) (p : ℕ → 
           client = h.client;
         };
         counted = counted_went s t c.0 mine (made_steps step) h.counted h.runs pending refl refl refl refl;
-        passes = record { weights = refl; calls = omega arith; clean = and_first s.clean _; dead = λ w ne. refl };
+        passes = record { weights = refl; calls = omega arith; clean = and_first s.clean _; dead = λ w ne. refl; down = λ b l. refl };
         owed = refl;
         logged = record {
           steps = λ b. ap (λ (f : ℕ → List JournalEntry). map act_of (f b)) h.journals
@@ -388,7 +388,7 @@ module _ (d : Disk) (js : ℕ → List JournalEntry) (s : History) (p : ℕ → 
           client = h.client;
         };
         counted = counted_went s t c.0 mine mine h.counted h.runs pending refl refl refl refl;
-        passes = record { weights = refl; calls = omega arith; clean = λ q. q; dead = λ w ne. refl };
+        passes = record { weights = refl; calls = omega arith; clean = λ q. q; dead = λ w ne. refl; down = λ b l. refl };
         owed = refl;
         logged = record {
           steps = λ b. ap (λ (f : ℕ → List JournalEntry). map act_of (f b)) h.journals

@@ -1,13 +1,13 @@
 -- The bricks of a world: what they contain, their journals, and that they are ready.
-use Rattle.std.specs.Prelude.{ℕ, ◌≡◌, ◌≢◌, ◌<◌, ◌≤◌, ◌↔◌, Bool, true, false, not, if◌then◌else◌, Option, Some, None, List, [], ◌∷◌, ◌++◌, map, length, slice_get, nat_eq}
+use Rattle.std.specs.Prelude.{ℕ, suc, ◌-◌, ◌≡◌, ◌≢◌, ◌<◌, ◌≤◌, ◌↔◌, ◌⊎◌, Bool, true, false, not, if◌then◌else◌, Option, Some, None, List, [], ◌∷◌, ◌++◌, map, length, slice_get, nat_eq}
 use Rattle.std.specs.FinMap.{empty}
 use Rattle.dht_types.specs.Gfid.{Entry, root}
 use Rattle.dht_types.specs.History.{History, Act, is_change}
-use Rattle.dht_types.specs.Volume.{VolumeInfo, replay_names}
+use Rattle.dht_types.specs.Volume.{VolumeInfo, replay_info, replay_names}
 use Rattle.dht_xattr.specs.Plan.{planned_value}
-use Rattle.dht_brick.specs.Bricks.{BrickState, ServesOrFails, is_unreachable, unless_down}
+use Rattle.dht_brick.specs.Bricks.{BrickState, IsNewborn, ServesOrFails, is_unreachable, unless_down}
 use Rattle.dht_brick.specs.Contents.{Contents, newborn, no_opens, no_locks}
-use Rattle.dht_brick.specs.Events.{freed}
+use Rattle.dht_brick.specs.Events.{freed, remounted}
 use Rattle.dht_brick.specs.Named.{entry_of}
 use Rattle.dht_brick.specs.Memory.{NeverTakesMemory}
 use Rattle.dht_brick.specs.Rows.{row}
@@ -91,6 +91,48 @@ pub record AreNewborn (ws : List ℕ) (d : Disk) (js : ℕ → List JournalEntry
 -- a brick from which a client's locks and registrations were taken away
 abbrev pub without_client : ℕ → BrickState → BrickState
 without_client c s = record s { contents = freed c s.contents }
+
+-- a new brick of a replay over this volume: it has this number, its root has this attribute, and
+-- it fails only where it is armed
+pub record IsNew (v : VolumeInfo) (value : Option (List ℕ)) (b : ℕ) (s : BrickState) : Type 0 where
+  pub newborn : IsNewborn b v value s
+  pub faultless : s.is_faultless ≡ true
+
+-- the bricks are new, the first of them has this number, and the root of each has the attribute that
+-- is meant for it
+abbrev pub AreNew : {B : Type 0} → (B → BrickState) → VolumeInfo
+    → (value : ℕ → Option (List ℕ)) → ℕ → List B → Type 0
+AreNew state v value n [] = Unit {0}
+AreNew state v value n (b ∷ bricks) =
+    IsNew v (value n) n (state b) × AreNew state v value (suc n) bricks
+
+-- no range is meant for a brick
+abbrev pub no_range : ℕ → Option (List ℕ)
+no_range b = None
+
+-- the bricks that come to so many where these weights are mounted in this run: each has the root's
+-- record alone, without a range
+pub record AreFresh {B : Type 0} (state : B → BrickState)
+    (count : ℕ) (ws : List ℕ) (run : ℕ) (fresh : List B) : Type 0 where
+  pub many : length fresh ≡ length ws - count
+  pub new : AreNew state (replay_info ws run) no_range count fresh
+
+-- a brick that was mounted anew, and knows this volume
+abbrev pub remounted_in : VolumeInfo → BrickState → BrickState
+remounted_in v s = record s { contents = remounted s.contents; volume = v }
+
+-- each of these became so, or stayed as it was
+abbrev pub SomeBecame : {A : Type 0} → (A → A) → (old new : List A) → Type 0
+SomeBecame f [] [] = Unit {0}
+SomeBecame f (x ∷ xs) (y ∷ ys) = ((y ≡ x) ⊎ (y ≡ f x)) × SomeBecame f xs ys
+SomeBecame f xs ys = ⊥
+
+-- each brick is ready, in one volume or the other
+abbrev pub AreReadyInEither : {B : Type 0} → (B → BrickState) → (v w : VolumeInfo)
+    → (down : ℕ → Bool) → List B → Type 0
+AreReadyInEither state v w down bricks = (b : ℕ)
+    → ReadyAt state v (not (down b)) b (slice_get bricks b)
+    ⊎ ReadyAt state w (not (down b)) b (slice_get bricks b)
 
 -- one brick answered a request: that it is down, exactly where it is and the request is no unlock; else by its row, or memory ran out. It noted what it answered, unless it is down. The others did not change
 pub record ServedAt {B : Type 0} (state : B → BrickState) (down : ℕ → Bool) (c : ClientNo) (k : CallNo) (a : Ask) (old : List B) (r : Reply) (new : List B) : Type 0 where

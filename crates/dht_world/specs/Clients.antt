@@ -1,5 +1,5 @@
 -- The 64 places of clients, and what holds of each.
-use Rattle.std.specs.Prelude.{ℕ, ◌+◌, ◌<◌, ◌≤◌, ◌≡◌, ◌≢◌, ◌⊎◌, Bool, true, false, if◌then◌else◌, MatchBool, Option, Some, None, Result, is_ok, OnOk, List, [], ◌∷◌, length, slice_get}
+use Rattle.std.specs.Prelude.{ℕ, ◌+◌, ◌<◌, ◌≤◌, ◌≡◌, ◌≢◌, ◌⊎◌, Bool, true, false, if◌then◌else◌, MatchBool, Option, Some, None, is_some, Result, is_ok, OnOk, List, [], ◌∷◌, length, slice_get}
 use Rattle.dht_types.specs.Calls.{refusal_at_once, refusal_at_start}
 use Rattle.dht_types.specs.Cost.{cost}
 use Rattle.dht_types.specs.History.{History, PendingCall, IsUndisturbed}
@@ -35,8 +35,8 @@ claim_at g (Some (Living x n)) = if g.is_busy x then (g.stage x).claims else no_
 abbrev pub claims_of : {C : Type 0} → CallerGhosts C → List (Place C) → ℕ → Claim
 claims_of g places c = claim_at g (slice_get places c)
 
--- the client's call is pending, and was not to be refused at once; its program knows what it has
--- to; and a call that nobody disturbed so far answers in time, if that stays so
+-- the client's call is pending, and was not to be refused at once; its program knows what it has to;
+-- and a call that nobody disturbed so far answers in time, if that stays so
 pub record Works {C : Type 0} (g : CallerGhosts C) (d : Disk) (s : History) (claims : ℕ → Claim) (c : ℕ) (x : C) (n : CallNo) : Type 0 where
   pub mine : PendingCall
   pub runs : s.pending c ≡ Some mine
@@ -46,9 +46,10 @@ pub record Works {C : Type 0} (g : CallerGhosts C) (d : Disk) (s : History) (cla
   pub knows : (g.stage x).knows (scene d s claims (client c) mine)
   pub in_time : IsUndisturbed s mine → mine.steps + (g.stage x).variant ≤ cost (length s.weights) mine.call
 
--- a client that lives has its place's number; one that is idle or dead has no pending call
+-- a client that lives has its place's number; one that is idle or dead has no pending call, nor is
+-- there one where no client is
 abbrev pub ClientFits : {C : Type 0} → CallerGhosts C → Disk → History → (ℕ → Claim) → ℕ → Option (Place C) → Type 0
-ClientFits g d s claims c None = Unit {0}
+ClientFits g d s claims c None = s.pending c ≡ None
 ClientFits g d s claims c (Some Dead) = (s.dead c ≡ true) × (s.pending c ≡ None)
 ClientFits g d s claims c (Some (Living x n)) =
     (s.dead c ≡ false) × (g.number x ≡ client c) × MatchBool (g.is_busy x) (Works g d s claims c x n) (s.pending c ≡ None)
@@ -133,9 +134,11 @@ abbrev pub IsListed : ℕ → List ℕ → Type 0
 IsListed c [] = ⊥
 IsListed c (x ∷ xs) = (x ≡ c) ⊎ IsListed c xs
 
--- each pending call is listed and has a number that was given; one that was alone when it began, and after which none was accepted, is alone
+-- each pending call is listed, and who is listed has one; it has a number that was given; one that was
+-- alone when it began, and after which none was accepted, is alone
 pub record CallsCounted (s : History) : Type 0 where
   pub listed : (c : ℕ) (r : PendingCall) → s.pending c ≡ Some r → IsListed c s.callers
+  pub calling : (c : ℕ) → IsListed c s.callers → is_some (s.pending c) ≡ true
   pub numbered : (c : ℕ) (r : PendingCall) → s.pending c ≡ Some r → r.number.0 ≤ s.calls
   pub from_one : (c : ℕ) (r : PendingCall) → s.pending c ≡ Some r → 0 < r.number.0
   pub alone : (c w : ℕ) (r : PendingCall)

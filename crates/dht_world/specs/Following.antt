@@ -1,8 +1,8 @@
 -- How the lines of a transcript come from the events of a schedule, one event after the other, and how soon a call answers.
-use Rattle.std.specs.Prelude.{ℕ, ◌+◌, ◌<◌, ◌≤◌, ◌≡◌, ◌≢◌, ◌⊎◌, ◌↔◌, Bool, true, false, nat_lt, if◌then◌else◌, Option, Some, None, is_some, MatchOption, List, [], ◌∷◌, ◌++◌, length}
+use Rattle.std.specs.Prelude.{ℕ, ◌+◌, ◌<◌, ◌≤◌, ◌≡◌, ◌≢◌, ◌⊎◌, ◌↔◌, Bool, true, false, not, nat_lt, if◌then◌else◌, Option, Some, None, is_some, MatchOption, List, [], ◌∷◌, ◌++◌, length}
 use Rattle.dht_types.specs.Calls.{named_call, refusal_at_start}
 use Rattle.dht_types.specs.Cost.{cost}
-use Rattle.dht_types.specs.History.{History, PendingCall, IsUndisturbed, with_line, with_lines}
+use Rattle.dht_types.specs.History.{History, PendingCall, IsUndisturbed, is_empty, with_line, with_lines}
 use Rattle.dht_types.specs.declared.calls.Answer.TheVariants.{Fault}
 use Rattle.dht_types.specs.declared.calls.Call.{Call}
 use Rattle.dht_types.specs.declared.errors.Errno.{Errno}
@@ -18,10 +18,10 @@ use Rattle.dht_types.specs.declared.lines.RequestKind.TheVariants.{Unlock}
 use Rattle.dht_types.specs.declared.lines.ReplyKind.{ReplyKind}
 use Rattle.dht_types.specs.declared.lines.ReplyKind.TheVariants.{Ok as Carried, Wait, Down, Failed}
 use Rattle.dht_types.specs.declared.lines.Cause.{Cause}
-use Rattle.dht_types.specs.declared.lines.Cause.TheVariants.{Unknown, Dead, Busy, Idle}
+use Rattle.dht_types.specs.declared.lines.Cause.TheVariants.{Unknown, Dead, Busy, Idle, Open, Fewer}
 use Rattle.dht_types.specs.declared.lines.Cause.TheVariants as cause
 use Rattle.dht_types.specs.declared.lines.Line.{Line}
-use Rattle.dht_types.specs.declared.lines.Line.TheVariants.{Volume, Called, Stepped, Waited, Tree, Answered, WentDown, CameUp, Died, Refused}
+use Rattle.dht_types.specs.declared.lines.Line.TheVariants.{Volume, Remounted, Called, Stepped, Waited, Tree, Answered, WentDown, CameUp, Died, Refused}
 
 -- ---- which events are refused
 
@@ -47,9 +47,16 @@ step_cause (Some r) = None
 abbrev pub brick_cause : History → ℕ → Option Cause
 brick_cause s b = if nat_lt b (length s.weights) then None else Some Unknown
 
+-- a remount is refused while a call of a living client is pending, and where it takes a brick away
+abbrev pub remount_cause : History → List ℕ → Option Cause
+remount_cause s ws =
+    if not (is_empty s.callers) then Some Open
+    else if nat_lt (length ws) (length s.weights) then Some Fewer else None
+
 -- the first cause for which an event is refused after this history, if there is one
 abbrev pub cause_of : History → Event → Option Cause
 cause_of s (event.Volume w) = None
+cause_of s (event.Remount w) = remount_cause s w
 cause_of s (event.Call c call) =
     client_cause s c (call_cause (s.pending c) (named_call s.answered call))
 cause_of s (event.Step c) = client_cause s c (step_cause (s.pending c))
@@ -96,6 +103,7 @@ pub record IsWait (s : History) (c : ℕ) (r : PendingCall) (line : Line) : Type
 -- the head line of an event that is accepted
 abbrev pub Accepted : History → Event → Line → Type 0
 Accepted s (event.Volume w) line = line ≡ Volume w
+Accepted s (event.Remount w) line = line ≡ Remounted w
 -- a call has the next number, and names its directory by a gfid
 Accepted s (event.Call c call) line =
     (what : Call Gfid) × (named_call s.answered call ≡ Some what)
@@ -137,6 +145,7 @@ IsUnderCall line k c None lines = (lines ≡ []) ⊎ (lines ≡ Answered k c Non
 -- what may stand under a head line that comes after this history
 abbrev pub IsUnder : History → Line → List Line → Type 0
 IsUnder s (Volume w) lines = lines ≡ []
+IsUnder s (Remounted w) lines = lines ≡ []
 IsUnder s (Called k c what) lines =
     IsUnderCall (s.size + 1) k c (refusal_at_start (length s.weights) what) lines
 IsUnder s (Stepped k c b q r) lines = IsUnderStep k c lines
@@ -168,6 +177,7 @@ abbrev pub InTime : History → Line → Type 0
 InTime s (Stepped k c b q r) = (o : PendingCall) → s.pending c.0 ≡ Some o → IsUndisturbed s o → o.steps < cost (length s.weights) o.call
 InTime s (Waited k c b h) = (o : PendingCall) → s.pending c.0 ≡ Some o → IsUndisturbed s o → ⊥
 InTime s (Volume w) = Unit {0}
+InTime s (Remounted w) = Unit {0}
 InTime s (Called k c call) = Unit {0}
 InTime s (Tree k step) = Unit {0}
 InTime s (Answered k c at a) = Unit {0}

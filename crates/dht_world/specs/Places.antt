@@ -1,11 +1,12 @@
 -- Where a world is, and what an event makes of it.
-use Rattle.std.specs.Prelude.{ℕ, ◌≡◌, true, is_some, None, List, ◌++◌, map}
+use Rattle.std.specs.Prelude.{ℕ, ◌+◌, ◌≡◌, true, is_some, None, List, ◌++◌, length, map, vec_len}
 use Rattle.dht_types.specs.History.{History, history_of}
+use Rattle.dht_types.specs.Volume.{VolumeInfo, replay_info}
 use Rattle.dht_types.specs.declared.events.Event.{Event}
 use Rattle.dht_types.specs.declared.lines.Line.{Line}
 use Rattle.dht_brick.specs.declared.brick.Brick.{Ghosts as BrickGhosts}
 use Rattle.dht_section.specs.declared.caller.Caller.{Ghosts as CallerGhosts}
-use Rattle.dht_world.specs.Bricks.{disk_of, journals_of, AreReady}
+use Rattle.dht_world.specs.Bricks.{disk_of, journals_of, volume_of, remounted_in, AreFresh, AreReady, AreReadyInEither, SomeBecame}
 use Rattle.dht_world.specs.Following.{cause_of, Block}
 use Rattle.dht_world.specs.World.{Summary, At, HoldersCall}
 use Rattle.dht_world.specs.declared.events.World.{World}
@@ -20,9 +21,15 @@ summary_of w = record {
   answers = w.answers.items;
 }
 
--- the world is where these lines lead to, and its bricks are ready
+-- the world is where these lines lead to
+abbrev pub IsLed : {B C : Type 0} → BrickGhosts B → CallerGhosts C → World B C → List Line → Type 0
+IsLed b c w past =
+    At c (disk_of b.state w.bricks.items) (journals_of b.state w.bricks.items)
+    w.clients.items w.weights (summary_of w) past
+
+-- and its bricks are ready
 pub record IsAt {B C : Type 0} (b : BrickGhosts B) (c : CallerGhosts C) (w : World B C) (past : List Line) : Type 0 where
-  pub led : At c (disk_of b.state w.bricks.items) (journals_of b.state w.bricks.items) w.clients.items w.weights (summary_of w) past
+  pub led : IsLed b c w past
   pub ready : AreReady b.state w.weights w.run (history_of past).down w.bricks.items
 
 -- nothing changed but how many lines the world has written
@@ -38,6 +45,42 @@ pub record StaysSilent {B C : Type 0} (b : BrickGhosts B) (old new : World B C) 
 -- nothing changed
 abbrev pub Stays : {B C : Type 0} → BrickGhosts B → World B C → World B C → Type 0
 Stays b old new = StaysSilent b old new × (new.lines ≡ old.lines)
+
+-- the volume that is mounted next, where it has these weights
+abbrev pub next_volume : {B C : Type 0} → World B C → List ℕ → VolumeInfo
+next_volume w ws = replay_info ws (w.run + 1)
+
+-- these bricks may join the world in a remount with these weights
+abbrev pub MayJoin : {B C : Type 0} → BrickGhosts B → World B C → List ℕ → List B → Type 0
+MayJoin b w ws fresh = AreFresh b.state (vec_len w.bricks) ws (w.run + 1) fresh
+
+-- each brick was mounted anew in the next volume, and then these came
+abbrev pub Mounts : {B C : Type 0} → BrickGhosts B → (old new : World B C) → List ℕ
+    → (fresh : List B) → Type 0
+Mounts b old new ws fresh =
+    map b.state new.bricks.items
+    ≡ map (remounted_in (next_volume old ws)) (map b.state old.bricks.items) ++ map b.state fresh
+
+-- memory ran out while these weights were mounted: the world is where these lines lead to, but some
+-- bricks know the volume that was to be, and others that which is
+pub record IsRemounting {B C : Type 0} (b : BrickGhosts B) (c : CallerGhosts C)
+    (w : World B C) (ws : List ℕ) (past : List Line) : Type 0 where
+  pub led : IsLed b c w past
+  pub ready : AreReadyInEither b.state (volume_of (length w.bricks.items) w.weights w.run)
+      (next_volume w ws) (history_of past).down w.bricks.items
+
+-- then some bricks were mounted anew, or all, or none; none came, and nothing else changed
+pub record StaysInPart {B C : Type 0} (b : BrickGhosts B)
+    (old new : World B C) (ws : List ℕ) : Type 0 where
+  pub bricks : SomeBecame (remounted_in (next_volume old ws))
+      (map b.state old.bricks.items) (map b.state new.bricks.items)
+  pub clients : new.clients ≡ old.clients
+  pub weights : new.weights ≡ old.weights
+  pub run : new.run ≡ old.run
+  pub calls : new.calls ≡ old.calls
+  pub requests : new.requests ≡ old.requests
+  pub answers : new.answers.items ≡ old.answers.items
+  pub lines : new.lines ≡ old.lines
 
 -- the event is refused, for whatever cause
 abbrev pub IsRefused : History → Event → Type 0

@@ -1,8 +1,8 @@
 -- What holds of a world between events.
-use Rattle.std.specs.Prelude.{ℕ, ◌≡◌, ◌≤◌, ◌<◌, true, is_some, Option, Some, List, length, slice_get}
+use Rattle.std.specs.Prelude.{ℕ, ◌≡◌, ◌≤◌, ◌<◌, true, false, is_some, Option, Some, List, length, slice_get}
 use Rattle.dht_types.specs.History.{History, Legal, history_of, start}
 use Rattle.dht_types.specs.declared.events.Event.{Event}
-use Rattle.dht_types.specs.declared.events.Event.TheVariants.{Volume}
+use Rattle.dht_types.specs.declared.events.Event.TheVariants.{Volume, Remount}
 use Rattle.dht_types.specs.declared.identifiers.Gfid.{Gfid}
 use Rattle.dht_types.specs.declared.lines.Line.{Line}
 use Rattle.dht_types.specs.declared.locks.Key.{Key}
@@ -18,9 +18,10 @@ use Rattle.dht_world.specs.Clients.{claims_of, ClientFits, CallsCounted}
 use Rattle.dht_world.specs.Following.{InTimeFrom}
 use Rattle.dht_world.specs.declared.places.Place.{Place}
 
--- the events of a schedule after its first line
+-- the events of a schedule after its first line, but for those that bring bricks
 abbrev pub CanHappen : Event → Type 0
 CanHappen (Volume w) = ⊥
+CanHappen (Remount w) = ⊥
 CanHappen e = Unit {0}
 
 -- what a world keeps of its lines
@@ -42,12 +43,14 @@ pub record IsSummary (n : Summary) (s : History) : Type 0 where
   pub fewer : n.calls ≤ n.lines
   pub less : n.requests ≤ n.lines
 
--- what holds of bricks, journals, clients and summary where the lines tell this history
+-- what holds of bricks, journals, clients and summary where the lines tell this history; what is no
+-- brick is not down
 pub record Fit {C : Type 0} (g : CallerGhosts C) (d : Disk) (js : ℕ → List JournalEntry) (places : List (Place C)) (ws : List ℕ) (n : Summary) (s : History) : Type 0 where
   pub kept : Invariant d s (claims_of g places)
   pub early : Early d s
   pub logged : Logged js s
   pub same_weights : s.weights ≡ ws
+  pub up_above : (b : ℕ) → length ws ≤ b → s.down b ≡ false
   pub summary : IsSummary n s
   pub counted : CallsCounted s
   pub many : length places ≡ 64

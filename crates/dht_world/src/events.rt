@@ -1,13 +1,14 @@
 //! The world, and what an event makes of it.
 
 ghost use Rattle.std.specs.Prelude.{◌≡◌, ◌+◌, ◌≤◌, ◌<◌, ◌^◌, ◌↔◌, ◌&&◌, ℕ, Bool, false, not, nat_le, is_none, Err, None, List, [], ◌∷◌, ◌++◌, OnOk, OnErr, IfOk, vec_len, vec_capacity, length, map, slice_get};
+ghost use Rattle.std.specs.List.{list_any};
 ghost use Rattle.dht_types.specs.History.{history_of};
 ghost use Rattle.dht_types.specs.declared.lines.Line.{Line};
 ghost use Rattle.dht_types.specs.Volume.{HasWeight};
 ghost use Rattle.dht_brick.specs.Within.{MayBeSent};
 ghost use Rattle.dht_world.specs.Bricks.{disk_of, journals_of, none_down, without_client, AreNewborn, AreReady, ServedAt};
-ghost use Rattle.dht_world.specs.Clients.{place_cause, AreNewClients};
-ghost use Rattle.dht_world.specs.Following.{cause_of, is_step, step_limit, IsSpent};
+ghost use Rattle.dht_world.specs.Clients.{is_busy_at, place_cause, AreNewClients};
+ghost use Rattle.dht_world.specs.Following.{cause_of, remount_cause, is_step, step_limit, IsSpent};
 ghost use Rattle.dht_world.specs.World.{CanHappen, HoldersCall};
 ghost use Rattle.dht_world.specs.Places.{IsAt, IsAccepted, StaysSilent, Stays, Adds, Comes};
 ghost use Rattle.dht_world.specs.declared.stop.Stop.TheVariants.{Limit};
@@ -147,6 +148,27 @@ impl<B: Brick, C: Caller> World<B, C> {
         }
     }
 
+    /// Whether a call of a client that lives is pending.
+    fn is_called(&self) -> bool
+        ensures { result ≡ list_any (is_busy_at C.Caller) self.now.clients.items }
+    {
+        self.clients.iter().any(|place| !place.is_idle())
+    }
+
+    /// The first cause for which a remount with these weights is refused, if there is one.
+    pub(crate) fn remount_cause(&self, weights: &Weights) -> Option<Cause>
+        ensures { (past : List Line) → IsAt B.Brick C.Caller self.now past
+            → result ≡ remount_cause (history_of past) weights.now }
+    {
+        if self.is_called() {
+            return Some(Cause::Open);
+        }
+        if weights.as_slice().len() < self.weights.as_slice().len() {
+            return Some(Cause::Fewer);
+        }
+        None
+    }
+
     /// The first cause for which an event is refused, if there is one.
     fn cause_of(&self, event: &Event) -> Option<Cause>
         ensures { (past : List Line) → IsAt B.Brick C.Caller self.now past
@@ -154,6 +176,7 @@ impl<B: Brick, C: Caller> World<B, C> {
     {
         match event {
             Event::Volume(_) => None,
+            Event::Remount(weights) => self.remount_cause(weights),
             Event::Call(client, what) => {
                 let idle = answer_cause(&self.answers, what);
                 self.client_cause(*client, idle, Some(Cause::Busy))
@@ -180,7 +203,7 @@ impl<B: Brick, C: Caller> World<B, C> {
     }
 
     /// An event was refused, that of this line of the schedule.
-    fn refuse(&mut self, line: u64, cause: Cause, out: &mut Vec<Line>)
+    pub(crate) fn refuse(&mut self, line: u64, cause: Cause, out: &mut Vec<Line>)
         requires room { vec_len out.old + 3 ≤ vec_capacity out.old }
         requires few { self.old.lines + 3 < 2 ^ 64 }
         ensures lines { out.new.items ≡ out.old.items ++ Line.Refused line cause ∷ [] }
@@ -342,11 +365,11 @@ impl<B: Brick, C: Caller> World<B, C> {
                 self.die(ClientNo(*client as u16), out);
                 Ok(())
             }
-            Event::Volume(_) => unreachable!(),
+            Event::Volume(_) | Event::Remount(_) => unreachable!(),
         }
     }
 
-    /// One event, that of this line of the schedule; its lines are appended. It does not happen where
+    /// One event that brings no bricks, that of this line of the schedule; its lines are appended. It does not happen where
     /// it is a step and the run has had all its steps, nor where memory runs out: then nothing has
     /// happened.
     pub fn event(

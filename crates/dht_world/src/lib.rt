@@ -7,6 +7,7 @@ mod answers;
 mod events;
 mod notes;
 mod places;
+mod remount;
 mod stop;
 
 pub use events::World;

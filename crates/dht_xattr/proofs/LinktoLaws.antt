@@ -134,3 +134,21 @@ fails_more name b fails here k h = ⊎_elim
     (λ below. fails k below)
     (λ from. let same : b ≡ k = omega arith in ap (λ (i : ℕ). bytes_eq (replay_name i) name) (sym same) ∙ here)
     (cases_lt k b)
+
+-- ---- the value that is written for a brick of a replay
+
+pub replay_value : (count b : ℕ) → b < count → linkto_value (replay_names count) b ≡ replay_name b ++ 0 ∷ []
+replay_value count b h =
+    let size = length-replay_names count in
+    ap (λ (o : Option (List ℕ)). unwrap_or o [] ++ 0 ∷ []) (slice_get-get_or (replay_names count) b [] (omega arith))
+    ∙ ap (λ (name : List ℕ). name ++ 0 ∷ []) (replay_names_at count b h)
+
+none_past : {A : Type 0} (xs : List A) (b : ℕ) → length xs ≤ b → slice_get xs b ≡ None
+none_past [] b h = refl
+none_past (x ∷ xs) zero h = absurd (omega arith)
+none_past (x ∷ xs) (suc b) h = none_past xs b (omega arith)
+
+pub no_replay_value : (count b : ℕ) → count ≤ b → linkto_value (replay_names count) b ≡ 0 ∷ []
+no_replay_value count b h =
+    let size = length-replay_names count in
+    ap (λ (o : Option (List ℕ)). unwrap_or o [] ++ 0 ∷ []) (none_past (replay_names count) b (omega arith))

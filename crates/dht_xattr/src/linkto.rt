@@ -7,6 +7,7 @@ ghost use Rattle.dht_types.specs.Linkto.{linkto_value, linked_brick, without_zer
 
 use dht_types::bytes::Bytes;
 use dht_types::identifiers::BrickNo;
+use dht_types::linktos::LinktoValue;
 use dht_types::volumes::Volume;
 use itoa::Buffer;
 use std::alloc::{AllocError, Global};
@@ -22,6 +23,21 @@ pub fn linkto_bytes(alloc: Global, volume: &Volume, brick: BrickNo) -> Result<By
     value.extend_from_slice(name)?;
     value.push(0)?;
     Ok(Bytes::new(value))
+}
+
+/// The value of a linkto file that leads to a brick of a replay's volume of so many bricks, as
+/// `linkto_bytes` says. It needs no volume, and takes no memory.
+pub fn linkto_value_of(bricks: u16, brick: BrickNo) -> LinktoValue
+    ensures { result ≡ linkto_value (replay_names bricks) brick.0 }
+{
+    if brick.0 >= bricks {
+        return LinktoValue::new(b"\0");
+    }
+    let mut buffer = Buffer::new();
+    let number = buffer.format(brick.0);
+    LinktoValue::new(b"brick-")
+        .with(number.as_bytes())
+        .with(b"\0")
 }
 
 /// The value less one zero byte at its end, if it has one.

@@ -1,7 +1,8 @@
 use Rattle.std.proofs.Common.{rules, ap, ◌∙◌, Ok, Err}
 use Rattle.dht_run.specs.NextEvent.{CutsEvent}
 use Rattle.dht_types.specs.Faults.{HasFault}
-use Rattle.dht_run.proofs.GoOnLaws.{so_far_more, end_reached, volume_reached, none_came, stopped_in, stopped_ends, limit_reached, came}
+use Rattle.dht_run.proofs.GoOnLaws.{cut_by, so_far_more, end_reached, volume_reached, none_came, stops, stopped_ends, limit_reached, came}
+use Rattle.dht_run.proofs.ReplayLaws.{run_small}
 use Rattle.dht_run.proofs.replay.go_on.Goals as goal
 
 pub returns-in-Ok-None-clause-ends : goal.returns-in-Ok-None-clause-ends
@@ -32,7 +33,7 @@ returns-in-Err-carry_out-clause-ends g c = λ text before h.
     let later = c.is_volume.ensures.other c.if-is_volume.false in
     let so_far = c.events.invariant.each text before h in
     stopped_ends g.B.Brick g.C.Caller c.carry_out.new.world c.events.count c.next_event.new.reader text _ before _ (HasFault (g.K.Sink.faults c.events.sink) (g.K.Sink.faults c.carry_out.new.sink)) c.in-Err-carry_out.ending failed.cause
-    (stopped_in g.B.Brick g.C.Caller c.events.world c.carry_out.new.world c.events.count c.events.reader c.next_event.new.reader c.in-Ok-Some.event text _ _ before _ _ cuts later failed.grows failed.err so_far)
+    (stops g.B.Brick g.C.Caller c.events.world c.carry_out.new.world c.events.count c.events.reader c.next_event.new.reader c.in-Ok-Some.event text _ _ before _ _ c.in-Err-carry_out.ending cuts later failed.grows (λ past at. cut_by c.in-Err-carry_out.ending _ _ _ (failed.err past at)) so_far)
     (λ q. limit_reached g.B.Brick g.C.Caller c.events.world c.carry_out.new.world c.events.count c.events.reader c.next_event.new.reader c.in-Ok-Some.event text _ _ before _ _ cuts later failed.grows
     (failed.limit (ap Err q)) so_far)
 
@@ -48,3 +49,8 @@ events-preserved g c =
       source = search rules;
       sink = search rules;
     }
+
+pub carry_out-requires-clause-run : goal.carry_out-requires-clause-run
+carry_out-requires-clause-run g c =
+    let so_far = c.events.invariant.some.2 in
+    run_small g.B.Brick g.C.Caller c.events.world c.events.count _ _ so_far.events so_far.lines so_far.carried

@@ -1,4 +1,4 @@
-use Rattle.std.proofs.Common.{rules, ◌≡◌, sym, refl, subst, arith}
+use Rattle.std.proofs.Common.{rules, sym, refl, subst, arith}
 use Rattle.dht_run.proofs.PlaceLaws.{AreIdlePlaces, one_place_more, all_new}
 use Rattle.dht_run.proofs.replay.new_clients.Goals as goal
 

@@ -1,4 +1,4 @@
-use Rattle.std.proofs.Common.{ap, ◌∙◌, Err}
+use Rattle.std.proofs.Common.{ap, ◌∙◌, inl, Err}
 use Rattle.dht_membrick.specs.State.{mem_state}
 use Rattle.dht_types.specs.Faults.{HasFault}
 use Rattle.dht_run.proofs.FinishLaws.{ends_short}
@@ -6,7 +6,7 @@ use Rattle.dht_run.proofs.StartLaws.{nothing_done, first_malformed, first_short,
 use Rattle.dht_run.proofs.replay.replay.Goals as goal
 
 pub returns-in_default-clause-ends : goal.returns-in_default-clause-ends
-returns-in_default-clause-ends g c = nothing_done mem_state c.args.bricks.now.items _ _ c.requires.empty
+returns-in_default-clause-ends g c = inl (nothing_done mem_state c.args.bricks.now.items _ _ c.requires.empty)
 
 pub returns-in-Ok-write_malformed-clause-ends : goal.returns-in-Ok-write_malformed-clause-ends
 returns-in-Ok-write_malformed-clause-ends g c =

@@ -1,4 +1,4 @@
-use Rattle.std.proofs.Common.{rules, List, ℕ, subst}
+use Rattle.std.proofs.Common.{rules, List, ℕ, subst, inl}
 use Rattle.dht_membrick.specs.State.{mem_state}
 use Rattle.dht_run.specs.Commands.{layout_text, IsPrinted}
 use Rattle.dht_run.specs.Program.{IsLayout}
@@ -15,4 +15,4 @@ returns-in-Ok-Some-Layout-clause-layout g c = λ weights h.
     (one_layout words c.in-Ok-Some-Layout.weights weights asked h) c.print_layout.ensures.printed
 
 pub returns-in-Err-clause-replay : goal.returns-in-Err-clause-replay
-returns-in-Err-clause-replay g c = λ is_replay. nothing_done mem_state c.args.shelf.now.mem.items _ _ c.requires.empty
+returns-in-Err-clause-replay g c = λ is_replay. inl (nothing_done mem_state c.args.shelf.now.mem.items _ _ c.requires.empty)

@@ -4,7 +4,7 @@ use Rattle.dht_section.proofs.PartSteps.{goes_as, ends_as}
 use Rattle.dht_client.specs.Client.{client_stage, running_stage}
 use Rattle.dht_section.specs.Stages.{Stage}
 use Rattle.dht_section.specs.Ended.{ended}
-use Rattle.dht_client.specs.Found.{ShowsFile}
+use Rattle.dht_resolve.specs.Found.{ShowsDir, ShowsFile}
 use Rattle.dht_client.specs.Program.{program_stage}
 use Rattle.dht_client.proofs.calling.ClientCaller.take.Goals as goal
 
@@ -16,3 +16,6 @@ returns-in-Done-clause-moves c = λ s t h. (ap is_some c.take.ensures.after, end
 
 pub returns-in-Go-clause-found : goal.returns-in-Go-clause-found
 returns-in-Go-clause-found c = λ f h. absurd (c.in-Go.ensures.found f (subst (λ (x : Stage). ShowsFile x c.args.reply f) (ap running_stage (sym c.take.ensures.value ∙ c.in-Some.is)) h))
+
+pub returns-in-Go-clause-folder : goal.returns-in-Go-clause-folder
+returns-in-Go-clause-folder c = λ g h. absurd (c.in-Go.ensures.folder g (subst (λ (x : Stage). ShowsDir x c.args.reply g) (ap running_stage (sym c.take.ensures.value ∙ c.in-Some.is)) h))

@@ -1,6 +1,7 @@
-use Rattle.std.proofs.Common.{◌≡◌, sym, subst, ◌∙◌, []}
+use Rattle.std.proofs.Common.{sym, subst, ◌∙◌, []}
 use Rattle.dht_section.proofs.ReapSteps.{reap_moves, reap_noted, reap_again}
-use Rattle.dht_section.specs.Reap.{reap_stage, lone_reap, reap_ending, lone_ending, EndsByFault}
+use Rattle.dht_section.specs.Parts.{EndsByFault}
+use Rattle.dht_section.specs.Reap.{reap_stage, lone_reap, reap_ending, lone_ending}
 use Rattle.dht_section.specs.Stages.{Moves}
 use Rattle.dht_section.proofs.reap.ReapMachine.take.Goals as goal
 

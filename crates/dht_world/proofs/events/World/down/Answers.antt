@@ -15,7 +15,7 @@ returns-clause-comes g c = λ n past at.
     let there = brick_there g.B.Brick g.C.Caller w past brick.0 at accepted in
     let within : c.from.result < length w.bricks.items = omega (arith, c.from.ensures, there) in
     adds_one g.B.Brick g.C.Caller w _ n (event.Down brick.0) past c.args.out.now.items c.push_line.new.out.items (WentDown brick) c.push_line.ensures.items (record {
-      led = down_at g.B.Brick g.C.Caller transition_laws g.met.C.Caller.stable w past c.from.result brick c.index_mut.result.now c.set_up.new.self at within c.index_mut.ensures.value c.set_up.ensures;
+      led = down_at g.B.Brick g.C.Caller transition_laws g.met.C.Caller.stable w past c.from.result brick c.index_mut.result.now c.set_up.new.self at accepted within c.index_mut.ensures.value c.set_up.ensures;
       ready = down_ready g.B.Brick g.C.Caller transition_laws g.met.C.Caller.stable w past c.from.result brick c.index_mut.result.now c.set_up.new.self at c.from.ensures within c.index_mut.ensures.value c.set_up.ensures;
     })
     (block_alone (history_of past) n (event.Down brick.0) (WentDown brick) accepted refl refl)
