@@ -1,21 +1,14 @@
 -- Small facts that every law of the invariant uses.
-use Rattle.std.proofs.Common.{◌≡◌, ◌≢◌, ◌<◌, ℕ, arith, Bool, true, false, refl, sym, ap, ◌∙◌, inl, inr, ◌⊎◌}
-use Rattle.std.specs.Prelude.{Option, Some, None, nat_eq, is_some, ◌&&◌, if◌then◌else◌}
-use Rattle.dht_types.specs.Put.{Exact, same_entry}
-use Rattle.dht_types.specs.Gfid.{Entry, anchor, same_gfid}
-use Rattle.dht_types.proofs.PutLaws.{exact_nat, exact_entry, exact_gfid}
+use Rattle.std.proofs.Common.{◌≡◌, ◌≢◌, ◌<◌, ℕ, arith, Bool, true, false, refl, sym, ◌∙◌, inl, inr, ◌⊎◌}
+use Rattle.std.specs.Prelude.{Option, Some, None, is_some, ◌&&◌}
+use Rattle.dht_types.specs.Put.{Exact}
+use Rattle.dht_types.specs.Gfid.{anchor, same_gfid}
+use Rattle.dht_types.proofs.PutLaws.{exact_gfid}
 use Rattle.dht_types.specs.declared.identifiers.Gfid.{Gfid}
-use Rattle.dht_section.specs.Shapes.{here}
 
 pub cases : {K : Type 0} (same : K → K → Bool) → Exact same → (p q : K) (v : Bool) → same p q ≡ v → (p ≡ q) ⊎ (p ≢ q)
 cases same exact p q true e = inl ((exact p q).0 e)
 cases same exact p q false e = inr (λ h. let k : true ≡ false = sym ((exact p q).1 h) ∙ e in cc)
-
-pub nat_cases : (x y : ℕ) → (x ≡ y) ⊎ (x ≢ y)
-nat_cases x y = cases nat_eq exact_nat x y (nat_eq x y) refl
-
-pub entry_cases : (x y : Entry) → (x ≡ y) ⊎ (x ≢ y)
-entry_cases x y = cases same_entry exact_entry x y (same_entry x y) refl
 
 pub gfid_cases : (x y : Gfid) → (x ≡ y) ⊎ (x ≢ y)
 gfid_cases x y = cases same_gfid exact_gfid x y (same_gfid x y) refl
@@ -46,10 +39,3 @@ is_there (Some x) h = (x, refl)
 
 pub anchor_within : (g : Gfid) (n : ℕ) → 0 < n → anchor g n < n
 anchor_within g n h = omega arith
-
--- what stands on one brick alone
-pub here_at : {A : Type 0} (v : Option A) (b : ℕ) → here v b b ≡ v
-here_at v b = ap (λ (x : Bool). if x then v else None) ((exact_nat b b).1 refl)
-
-pub here_off : {A : Type 0} (v : Option A) (b i : ℕ) → i ≢ b → here v b i ≡ None
-here_off v b i ne = ap (λ (x : Bool). if x then v else None) (not_true (nat_eq i b) (λ h. ne ((exact_nat i b).0 h)))

@@ -23,7 +23,9 @@ use Rattle.dht_invariant.specs.Makes.{Makes, IsNew}
 use Rattle.dht_section.specs.Names.{NameInvariant}
 use Rattle.dht_section.specs.Shapes.{Plain, FileShape, Gone, Live, Moving, Copying, Moved, here, core_at, body, either, main_brick}
 use Rattle.dht_section.specs.Views.{core, cores_of, links_to, view_of, dir_view}
-use Rattle.dht_invariant.proofs.Basics.{nat_cases, entry_cases, gfid_cases, none_some, other_some, not_true, here_at, here_off}
+use Rattle.dht_invariant.proofs.Basics.{gfid_cases, none_some, other_some, not_true}
+use Rattle.dht_section.proofs.EarlyLaws.{nat_cases, here_at, here_off}
+use Rattle.dht_section.proofs.SlotLaws.{entry_cases}
 use Rattle.dht_invariant.proofs.Frames.{links_core, plain_core, dir_core, name_kept, file_kept, dir_kept, lock_kept, view_same, dir_view_same}
 
 -- where no brick has a record of it, a file is gone

@@ -20,7 +20,8 @@ use Rattle.dht_section.specs.Invariant.{Invariant, NothingUsed}
 use Rattle.dht_section.specs.Locks.{LockInvariant}
 use Rattle.dht_invariant.specs.Laws.{DeathsAreTransitions}
 use Rattle.dht_invariant.specs.Transition.{Transition, FreesClient}
-use Rattle.dht_invariant.proofs.Basics.{nat_cases, not_true}
+use Rattle.dht_invariant.proofs.Basics.{not_true}
+use Rattle.dht_section.proofs.EarlyLaws.{nat_cases}
 use Rattle.dht_invariant.proofs.LineKeeps.{places_less, line_keeps}
 use Rattle.dht_invariant.proofs.QuietKeeps.{SameStores, at_most, used_same, transition_same}
 use Rattle.dht_invariant.proofs.RegistrationLaws.{registrations_less, unregistered_less}

@@ -34,7 +34,8 @@ use Rattle.dht_section.specs.Views.{links_to, view_of}
 use Rattle.dht_invariant.specs.Laws.{Preserves}
 use Rattle.dht_invariant.specs.Locality.{NoHold, ALock, ARegistration, ASeal, NamesFile, ByFileRecord, ByFileName, ByRegistration, BySeal as BySealed, NamesLock, FileClause}
 use Rattle.dht_invariant.specs.Touches.{OwnsFile}
-use Rattle.dht_invariant.proofs.Basics.{nat_cases, gfid_cases, other_some, true_false, here_off}
+use Rattle.dht_invariant.proofs.Basics.{gfid_cases, other_some, true_false}
+use Rattle.dht_section.proofs.EarlyLaws.{nat_cases, here_off}
 use Rattle.dht_invariant.proofs.ClauseLocality.{reach_of, answer_changes}
 use Rattle.dht_invariant.proofs.Frames.{brick_by, brick_is, kept_by}
 use Rattle.dht_invariant.proofs.NoMoreLaws.{StoresNoMore, early_no_more, used_no_more, file_used_kept, sealed_kept, opened_kept, taken_touches, no_dir_named, things_no_more}

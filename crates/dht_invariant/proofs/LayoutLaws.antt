@@ -12,7 +12,8 @@ use Rattle.dht_xattr.specs.Layout.{holder}
 use Rattle.dht_xattr.specs.Range.{contains}
 use Rattle.dht_xattr.specs.declared.range.Range.{Range}
 use Rattle.dht_section.specs.Disk.{Disk, range_at, ranges_below, layout_of}
-use Rattle.dht_invariant.proofs.Basics.{nat_cases, true_false}
+use Rattle.dht_invariant.proofs.Basics.{true_false}
+use Rattle.dht_section.proofs.EarlyLaws.{nat_cases}
 
 below_same : (d e : Disk) (g : Gfid) (n : ℕ) → ((b : ℕ) → b < n → range_at e g b ≡ range_at d g b) → ranges_below e g n ≡ ranges_below d g n
 unfolding ranges_below

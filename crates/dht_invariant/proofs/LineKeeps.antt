@@ -15,7 +15,7 @@ use Rattle.dht_section.specs.Disk.{holders}
 use Rattle.dht_section.specs.Invariant.{Used, NothingUsed}
 use Rattle.dht_section.specs.Locks.{LockInvariant}
 use Rattle.dht_invariant.specs.Laws.{ClaimsAreTransitions, LinesAreTransitions}
-use Rattle.dht_invariant.proofs.Basics.{nat_cases}
+use Rattle.dht_section.proofs.EarlyLaws.{nat_cases}
 use Rattle.dht_invariant.proofs.QuietKeeps.{SameHistory, at_most, same_stores, transition_same}
 
 -- one client claims of a copy no more than before

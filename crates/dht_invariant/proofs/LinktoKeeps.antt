@@ -1,7 +1,7 @@
 -- A linkto that comes or goes is in no part of the invariant.
 use Rattle.std.proofs.Common.{◌≡◌, ◌≢◌, ◌<◌, ℕ, Bool, true, false, List, refl, sym, ap, ◌∙◌, subst, inl, inr, arith}
-use Rattle.std.specs.Prelude.{Option, Some, None, is_some, is_none, unwrap_or, if◌then◌else◌}
-use Rattle.std.specs.FinMap.{insert, remove, contains_key}
+use Rattle.std.specs.Prelude.{Option, Some, None, is_some, unwrap_or}
+use Rattle.std.specs.FinMap.{contains_key}
 use Rattle.dht_types.specs.Gfid.{Entry, root}
 use Rattle.dht_types.specs.Tree.{Tree}
 use Rattle.dht_types.specs.declared.calls.TreeStep.{TreeStep}
@@ -11,16 +11,14 @@ use Rattle.dht_types.specs.declared.stored.DirRecord.{DirRecord}
 use Rattle.dht_types.specs.declared.stored.Main.{Main}
 use Rattle.dht_types.specs.declared.stored.Main.TheVariants.{Dir, File, Linkto}
 use Rattle.dht_types.specs.declared.stored.Slot.{Slot}
-use Rattle.dht_brick.specs.Contents.{Contents, Store, Slots, Opens, Locks, bare, slot, slot_in, dir, file}
+use Rattle.dht_brick.specs.Contents.{Contents, Store, Opens, Locks, bare, slot, dir, file}
 use Rattle.dht_brick.specs.Locality.{ChangesOnly, IsLocal, at_slot}
 use Rattle.dht_brick.specs.NameRows.{name_row, on_slot, when}
 use Rattle.dht_brick.specs.Named.{name_named}
 use Rattle.dht_brick.specs.Outcome.{Outcome, Do, Refuse, Await, in_dir, within, left_by}
-use Rattle.dht_brick.specs.Parts.{is_bare, is_copy, is_dir, is_plain, is_vacant, is_linkto, put_slot, with_main, without_main, with_slot}
+use Rattle.dht_brick.specs.Parts.{is_copy, is_dir, is_plain, is_vacant, is_linkto, with_main, without_main, with_slot}
 use Rattle.dht_brick.specs.Rows.{with_store}
 use Rattle.dht_brick.proofs.LocalityLaws.{names_are_local}
-use Rattle.dht_brick.proofs.MapLemmas.{get-insert_here, get-remove_here}
-use Rattle.dht_brick.proofs.TableLemmas.{entry_total}
 use Rattle.dht_brick.specs.declared.replies.Reply.{Reply}
 use Rattle.dht_brick.specs.declared.replies.Reply.TheVariants.{Ok as Carried}
 use Rattle.dht_brick.specs.declared.requests.NameRequest.{NameRequest}
@@ -38,7 +36,9 @@ use Rattle.dht_section.specs.Views.{visible, core, cores_of, links_to, view_of, 
 use Rattle.dht_invariant.specs.Laws.{IsOfLinkto, LinktoLeaves, LinktosKeep}
 use Rattle.dht_invariant.specs.Makes.{Framed}
 use Rattle.dht_invariant.specs.Touches.{Touches}
-use Rattle.dht_invariant.proofs.Basics.{nat_cases, entry_cases, other_some, both_true}
+use Rattle.dht_invariant.proofs.Basics.{other_some}
+use Rattle.dht_section.proofs.EarlyLaws.{nat_cases}
+use Rattle.dht_section.proofs.SlotLaws.{entry_cases, slot_put}
 use Rattle.dht_invariant.proofs.EarlyLaws.{HasNone, file_core, plain_as, early_on}
 use Rattle.dht_invariant.proofs.Frames.{brick_by, brick_is, kept_by, links_core, plain_core, dir_core, name_kept, file_kept, dir_kept, lock_kept, view_same, dir_view_same, used_kept}
 use Rattle.dht_invariant.proofs.NoMoreLaws.{sealed_kept}
@@ -46,20 +46,6 @@ use Rattle.dht_invariant.proofs.ServedLaws.{within_keeps, served_is}
 use Rattle.dht_invariant.proofs.TouchLaws.{one_slot_touches}
 
 -- ---- what the row leaves
-
-bare_is : (p : Slot) → is_bare p ≡ true → bare ≡ p
-bare_is p e = (let q = both_true (is_none p.main) (is_none p.standby) e in λ i. record { main = none_is p.main q.0 i; standby = none_is p.standby q.1 i })
-  where
-    none_is : {A : Type 0} (o : Option A) → is_none o ≡ true → None ≡ o
-    none_is None h = refl
-    none_is (Some x) h = absurd (let z : false ≡ true = h in cc)
-
-pub slot_put : (slots : Slots) (x : Entry) (p : Slot) → slot_in (put_slot slots x p) x ≡ p
-slot_put slots x p = by (is_bare p) refl
-  where
-    by : (v : Bool) → is_bare p ≡ v → slot_in (if v then remove slots x else insert slots x p) x ≡ p
-    by true e = ap (λ o. unwrap_or o bare) (get-remove_here entry_total slots x) ∙ bare_is p e
-    by false e = ap (λ o. unwrap_or o bare) (get-insert_here entry_total slots x p)
 
 vacant_none : (m : Option Main) → is_vacant m ≡ true → None ≡ visible m
 vacant_none None e = refl

@@ -27,7 +27,8 @@ use Rattle.dht_section.specs.Locks.{LockInvariant}
 use Rattle.dht_section.specs.Moves.{Guarantee, outcome_of}
 use Rattle.dht_section.specs.Permits.{May, Permitted}
 use Rattle.dht_section.specs.Scene.{Scene}
-use Rattle.dht_invariant.proofs.Basics.{nat_cases, not_true, true_false}
+use Rattle.dht_invariant.proofs.Basics.{not_true, true_false}
+use Rattle.dht_section.proofs.EarlyLaws.{nat_cases}
 use Rattle.dht_invariant.proofs.Frames.{brick_by}
 use Rattle.dht_invariant.proofs.ServedLaws.{within_keeps, served_is}
 

@@ -41,10 +41,12 @@ use Rattle.dht_invariant.specs.Laws.{Preserves}
 use Rattle.dht_invariant.specs.Makes.{Makes, IsNew}
 use Rattle.dht_invariant.specs.Touches.{Touches, OwnsFile}
 use Rattle.dht_invariant.specs.Transition.{Transition, OnlyMine}
-use Rattle.dht_invariant.proofs.Basics.{nat_cases, entry_cases, gfid_cases}
+use Rattle.dht_invariant.proofs.Basics.{gfid_cases}
+use Rattle.dht_section.proofs.SlotLaws.{entry_cases}
 use Rattle.dht_invariant.proofs.ContentsLaws.{slot_at_new, slot_off_new, file_at_new, file_off_new}
 use Rattle.dht_invariant.proofs.CreateKeeps.{no_link, same_copies, links_other, create_keeps}
-use Rattle.dht_invariant.proofs.EarlyLaws.{HasNone, stands_plainly, early_on}
+use Rattle.dht_invariant.proofs.EarlyLaws.{HasNone, early_on}
+use Rattle.dht_section.proofs.EarlyLaws.{nat_cases, stands_plainly}
 use Rattle.dht_invariant.proofs.Frames.{brick_by, brick_is, kept_by, file_is_used, used_kept}
 use Rattle.dht_invariant.proofs.LinktoKeeps.{linktos_keep}
 use Rattle.dht_invariant.proofs.LockKeeps.{locks_moved}

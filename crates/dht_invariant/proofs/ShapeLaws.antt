@@ -5,7 +5,7 @@ use Rattle.dht_types.specs.declared.stored.Record.{Record}
 use Rattle.dht_types.specs.declared.stored.Record.TheVariants as stored
 use Rattle.dht_brick.specs.Parts.{is_live}
 use Rattle.dht_section.specs.Shapes.{FileShape, Gone, Live, Moving, Copying, Moved, here, either, record_at}
-use Rattle.dht_invariant.proofs.Basics.{nat_cases, here_at, here_off}
+use Rattle.dht_section.proofs.EarlyLaws.{nat_cases, here_at, here_off}
 
 -- what is live has a hop and bytes
 pub live_is : (o : Option Record) → is_live o ≡ true → (hop : ℕ) × (bytes : List ℕ) × (o ≡ Some (stored.Live hop bytes))

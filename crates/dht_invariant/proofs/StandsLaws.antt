@@ -26,8 +26,8 @@ use Rattle.dht_section.specs.Names.{NameInvariant}
 use Rattle.dht_section.specs.Shapes.{NameShape, Bare, Folder, Plain, Marked, Contested, Standing, Copied, Committed, NameFits, FileShape, Gone, Live, Moving, Copying, Moved, FileFits, here, when_on, either, main_at, standby_at, core_at, node_of, body, record_at, bytes_shown}
 use Rattle.dht_section.specs.Views.{visible, cores_of, links_to, view_of}
 use Rattle.dht_section.proofs.FileLaws.{main_record, live_by}
-use Rattle.dht_invariant.proofs.Basics.{nat_cases, none_some, some_same, here_at, here_off}
-use Rattle.dht_invariant.proofs.EarlyLaws.{stands_plainly}
+use Rattle.dht_invariant.proofs.Basics.{none_some, some_same}
+use Rattle.dht_section.proofs.EarlyLaws.{nat_cases, here_at, here_off, stands_plainly}
 use Rattle.dht_invariant.proofs.Frames.{links_core}
 
 -- ---- truths

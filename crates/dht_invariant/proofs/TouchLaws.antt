@@ -17,7 +17,9 @@ use Rattle.dht_section.specs.Shapes.{NameShape, NameFits}
 use Rattle.dht_section.specs.Views.{core, cores_of, links_to, view_of}
 use Rattle.dht_invariant.specs.Makes.{Framed}
 use Rattle.dht_invariant.specs.Touches.{Touches, OwnsFile, Same}
-use Rattle.dht_invariant.proofs.Basics.{nat_cases, entry_cases, gfid_cases, is_there, other_some}
+use Rattle.dht_invariant.proofs.Basics.{gfid_cases, is_there, other_some}
+use Rattle.dht_section.proofs.EarlyLaws.{nat_cases}
+use Rattle.dht_section.proofs.SlotLaws.{entry_cases}
 use Rattle.dht_invariant.proofs.GrowsLaws.{grows_refl}
 
 -- one slot that is guarded changed, and the record of one file whose names are all guarded

@@ -38,11 +38,12 @@ use Rattle.dht_section.specs.Truth.{plain}
 use Rattle.dht_section.specs.Views.{core, links_to, view_of}
 use Rattle.dht_invariant.specs.Laws.{Preserves}
 use Rattle.dht_invariant.specs.Locality.{NoHold, ALock, ARegistration, ASeal, NamesFile, ByFileRecord, ByFileName, ByRegistration, BySeal, NamesDir, ByDirRecord, ByDirName, ByParent, NamesLock, NameClause, FileClause, is_of}
-use Rattle.dht_invariant.proofs.Basics.{nat_cases, entry_cases, gfid_cases, other_some, both_true, true_false, not_true, here_at, here_off}
+use Rattle.dht_invariant.proofs.Basics.{gfid_cases, other_some, both_true, true_false, not_true}
+use Rattle.dht_section.proofs.EarlyLaws.{nat_cases, here_at, here_off}
+use Rattle.dht_section.proofs.SlotLaws.{slot_put, entry_cases}
 use Rattle.dht_invariant.proofs.ClauseLocality.{reach_of, answer_changes, hops_grow}
 use Rattle.dht_invariant.proofs.Frames.{brick_by, brick_is, kept_by, links_core, dir_core, file_kept}
 use Rattle.dht_invariant.proofs.LessLaws.{file_unlinked}
-use Rattle.dht_invariant.proofs.LinktoKeeps.{slot_put}
 use Rattle.dht_invariant.proofs.NoMoreLaws.{StoresNoMore, early_no_more, used_no_more, file_used_kept, sealed_kept, opened_kept, taken_touches, things_no_more}
 use Rattle.dht_invariant.proofs.QuietKeeps.{at_most}
 use Rattle.dht_invariant.proofs.ServedLaws.{others_hold}

@@ -20,7 +20,8 @@ use Rattle.dht_section.specs.Disk.{Disk, ChangesOneBrick, slot_at, dir_at, holde
 use Rattle.dht_section.specs.Views.{core, links_to, view_of, dir_view}
 use Rattle.dht_invariant.specs.Laws.{RequestsAreLocal}
 use Rattle.dht_invariant.specs.Locality.{Reach, SlotStays, Same, Went, ChangesWithin, NamesFile, ByFileRecord, ByFileName, ByRegistration, BySeal, NamesDir, ByDirRecord, ByDirName, ByParent, NamesLock, SameDir, ShowsTheSame, depth_in, is_of, reach}
-use Rattle.dht_invariant.proofs.Basics.{entry_cases, not_true, other_some}
+use Rattle.dht_invariant.proofs.Basics.{not_true, other_some}
+use Rattle.dht_section.proofs.SlotLaws.{entry_cases}
 use Rattle.dht_invariant.proofs.Frames.{brick_by, brick_is, kept_by, links_core, plain_core, dir_core}
 use Rattle.dht_invariant.proofs.RegistrationLaws.{entries_kept, registration_total, registration_exact}
 use Rattle.dht_invariant.proofs.RowLocality.{rows_are_local, or_false}

@@ -16,7 +16,8 @@ use Rattle.dht_section.specs.Files.{FileInvariant, NamedAs, OnlyName, OnlyCopy, 
 use Rattle.dht_section.specs.Names.{NameInvariant}
 use Rattle.dht_section.specs.Shapes.{NameShape, Bare, Folder, Plain, Marked, Contested, Standing, Copied, Committed, NameFits, when_on, here, either, core_at, FileShape, Gone, Live, Moving, Copying, Moved, FileFits, body, record_at}
 use Rattle.dht_section.specs.Views.{FileView}
-use Rattle.dht_invariant.proofs.Basics.{true_false, here_off}
+use Rattle.dht_invariant.proofs.Basics.{true_false}
+use Rattle.dht_section.proofs.EarlyLaws.{here_off}
 
 apart : (i b m : ℕ) → b < m → m ≤ i → i ≢ b
 apart i b m k l e = omega arith
