@@ -23,7 +23,10 @@ READ = frozenset(
         "any-name",
         "lookup",
         "create",
+        "mkdir",
         "unlink",
+        "rmdir",
+        "heal",
     }
 )
 

@@ -25,16 +25,26 @@ remount [1, 0, 0, 0, 0, 0, 0, 0, 0, 0, 0, 0, 0, 0, 0, 0, 0, 0, 0, 0, 0, 0, 0, 0,
     read |call 0 lookup @ a| = call 0 lookup root [61]
     read |call 63 create @ a| = call 63 create root [61]
     read |call 2 unlink @ a| = call 2 unlink root [61]
+    read |call 2 mkdir @ a| = call 2 mkdir root [61]
+    read |call 2 rmdir @ a| = call 2 rmdir root [61]
+    read |call 2 heal @| = call 2 heal root
     read |call 18446744073709551615 lookup @ a| = call 18446744073709551615 lookup root [61]
 
     # directories
     read |call 0 lookup @0 a| = call 0 lookup of 0 [61]
     read |call 0 create @1 a| = call 0 create of 1 [61]
+    read |call 0 mkdir @1 a| = call 0 mkdir of 1 [61]
+    read |call 0 heal @1| = call 0 heal of 1
     read |call 0 unlink @18446744073709551615 a| = call 0 unlink of 18446744073709551615 [61]
     read |call 0 create 00000000-0000-0000-0000-000000000001 a| = \
 call 0 create gfid 00000000-0000-0000-0000-000000000001 [61]
     read |call 0 unlink ffffffff-ffff-ffff-ffff-ffffffffffff a| = \
 call 0 unlink gfid ffffffff-ffff-ffff-ffff-ffffffffffff [61]
+
+    read |call 0 rmdir 00000001-0000-0000-0000-000000010000 a| = \
+call 0 rmdir gfid 00000001-0000-0000-0000-000000010000 [61]
+    read |call 0 heal 00000001-0000-0000-0000-000000010000| = \
+call 0 heal gfid 00000001-0000-0000-0000-000000010000
 
     # names, of whatever bytes
     read |call 0 create @ a%20%25%7f%ffz~!| = call 0 create root [6120257fff7a7e21]
@@ -107,7 +117,15 @@ call 0 unlink gfid ffffffff-ffff-ffff-ffff-ffffffffffff [61]
     read |call 0 create @ a b| = malformed
     read |call 01 create @ a| = malformed
     read |call 18446744073709551616 create @ a| = malformed
-    read |call 0 mkdir @ a| = malformed
+    read |call 0 remove @ a| = malformed
+    read |call 0 lookup @| = malformed
+    read |call 0 mkdir @| = malformed
+    read |call 0 rmdir @| = malformed
+    read |call 0 heal @ a| = malformed
+    read |call 0 heal @ | = malformed
+    read |call 0 heal| = malformed
+    read |call 0 heal a| = malformed
+    read |call 0 heal @01| = malformed
     read |call 0 unlink @| = malformed
     read |call 0 unlink @ a b| = malformed
 
@@ -154,16 +172,24 @@ fn directory_told(alloc: Global, directory: Directory) -> Result<String, AllocEr
     }
 }
 
-/// A call, with its name in hexadecimal digits between brackets.
+/// A call, with its name, if it has one, in hexadecimal digits between brackets.
 fn call_told(alloc: Global, call: &Call<Directory>) -> Result<String, AllocError> {
     let verb = match call {
         Call::Lookup(_, _) => "lookup",
         Call::Create(_, _) => "create",
         Call::Unlink(_, _) => "unlink",
+        Call::Mkdir(_, _) => "mkdir",
+        Call::Rmdir(_, _) => "rmdir",
+        Call::Heal(_) => "heal",
     };
     let directory = directory_told(alloc, call.directory())?;
-    let name = hex::encode(alloc, call.name())?;
-    format!(in alloc; "{verb} {directory} [{name}]")
+    match call.name() {
+        Some(bytes) => {
+            let name = hex::encode(alloc, bytes)?;
+            format!(in alloc; "{verb} {directory} [{name}]")
+        }
+        None => format!(in alloc; "{verb} {directory}"),
+    }
 }
 
 /// What was read of a line.

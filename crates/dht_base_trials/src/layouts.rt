@@ -2,12 +2,12 @@
 
 use crate::tables::{compare, decimals};
 use dht_hash::dm_hash;
-use dht_types::identifiers::Gfid;
-use dht_types::volumes::{Volume, VolumeFault, Weights};
+use dht_types::identifiers::{BrickNo, Gfid};
+use dht_types::volumes::{MOST_BRICKS, Volume, VolumeFault, Weights};
 use dht_xattr::faults::faults;
 use dht_xattr::layout::{Layout, MOST_RANGES, holder};
 use dht_xattr::linkto::{linkto_brick, linkto_bytes};
-use dht_xattr::plan::plan;
+use dht_xattr::plan::{plan, planned_value};
 use dht_xattr::range::{Range, decode, encode};
 use std::alloc::{AllocError, Global};
 use std::test::Fail;
@@ -27,6 +27,12 @@ const TABLE: &str = "
     plan 1 1 1 = 0-7ffffffe 7fffffff-ffffffff
     plan 10000 1 1 = 7fffffff-ffffffff 0-7ffffffe
     plan 1 0 1 1000 = - 0-417873 417874-ffffffff
+
+    # the attribute that is planned for a brick in a directory, in a volume of these weights
+    value 1 0 1 1 = 0000000000000000000000007ffffffe
+    value 1 1 1 1 = 00000000000000007fffffffffffffff
+    value 1 1 1 0 1 1000 = none
+    value 1 0 0 0 = none
 
     # a hash, and the ranges of a layout: the holder of the hash, and what is wrong with the layout
     layout 7fffffff 0-7ffffffe 7fffffff-ffffffff = 1
@@ -102,6 +108,22 @@ pub fn plan_told(alloc: Global, words: &str) -> Result<String, AllocError> {
         told.push_str(range_told(alloc, *range)?.as_str())?;
     }
     Ok(told)
+}
+
+/// The attribute that is planned for a brick in a directory, by weights.
+pub fn planned_value_told(alloc: Global, words: &str) -> Result<String, AllocError> {
+    let (directory, words) = words.split_once(' ').unwrap_or((words, ""));
+    let (brick, weights) = words.split_once(' ').unwrap_or((words, ""));
+    let weights = Weights::new(decimals(alloc, weights)?);
+    if weights.as_slice().len() > MOST_BRICKS {
+        return format!(in alloc; "no volume");
+    }
+    let directory = Gfid(u128::from_str_radix(directory, 16).unwrap_or(0));
+    let brick = BrickNo(brick.parse().unwrap_or(u16::MAX));
+    match planned_value(&weights, directory, brick) {
+        Some(value) => hex::encode(alloc, value.as_slice()),
+        None => format!(in alloc; "none"),
+    }
 }
 
 /// The holder of a hash in a layout, and what is wrong with the layout.

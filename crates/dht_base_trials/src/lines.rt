@@ -20,8 +20,13 @@ remount 3 7 0 1000
 call 12 1 lookup 00000000-0000-0000-0000-000000000001 a%20b%25%7f
 call 12 1 create 00000000-0000-0000-0000-000000000001 a%20b%25%7f
 call 12 1 unlink 00000001-0000-0000-0000-000000010002 %-
+call 12 1 mkdir 00000000-0000-0000-0000-000000000001 a%20b%25%7f
+call 12 1 rmdir 00000001-0000-0000-0000-000000010002 %-
+call 12 1 heal 00000001-0000-0000-0000-000000010002
 tree 12 add-file 00000000-0000-0000-0000-000000000001 a%20b%25%7f 00000001-0000-0000-0000-000000010002
 tree 12 remove-file 00000000-0000-0000-0000-000000000001 a%20b%25%7f
+tree 12 add-dir 00000000-0000-0000-0000-000000000001 a%20b%25%7f 00000001-0000-0000-0000-000000010002
+tree 12 remove-dir 00000000-0000-0000-0000-000000000001 a%20b%25%7f
 refused 7 unknown
 refused 7 dead
 refused 7 busy
@@ -40,18 +45,25 @@ step 12 1 3 dirinfo nomem
 step 12 1 3 create refused:slot
 step 12 1 3 mkstandby failed
 step 12 1 3 lwrite down
+step 12 1 3 setlayout ok
+step 12 1 3 mkdir ok
+step 12 1 3 dropdir refused:notempty
 answer 12 1 at 34 file 00000001-0000-0000-0000-000000010002
 answer 12 1 at 34 dir 00000001-0000-0000-0000-000000010002
 answer 12 1 at 34 made 00000001-0000-0000-0000-000000010002
 answer 12 1 at 34 ok
 answer 12 1 at 34 eexist
 answer 12 1 at 34 eisdir
+answer 12 1 at 34 enotdir
+answer 12 1 at 34 enotempty
+answer 12 1 at 34 estale
+answer 12 1 at 34 enametoolong
 answer 12 1 enomem
 answer 12 1 enotconn
 answer 12 1 eio
 ";
 
-const STEPS: [(RequestKind, ReplyKind); 7] = [
+const STEPS: [(RequestKind, ReplyKind); 10] = [
     (RequestKind::Lock, ReplyKind::Ok),
     (RequestKind::Unlock, ReplyKind::Ok),
     (RequestKind::Look, ReplyKind::Refused(Refusal::Nodir)),
@@ -59,6 +71,9 @@ const STEPS: [(RequestKind, ReplyKind); 7] = [
     (RequestKind::Create, ReplyKind::Refused(Refusal::Slot)),
     (RequestKind::MakeStandby, ReplyKind::Failed),
     (RequestKind::LockedWrite, ReplyKind::Down),
+    (RequestKind::SetLayout, ReplyKind::Ok),
+    (RequestKind::MakeDir, ReplyKind::Ok),
+    (RequestKind::DropDir, ReplyKind::Refused(Refusal::NotEmpty)),
 ];
 
 const DUMP: &str = "\
@@ -104,13 +119,17 @@ const CAUSES: [Cause; 7] = [
     Cause::Fewer,
 ];
 
-const ANSWERS: [(Option<u64>, Answer); 9] = [
+const ANSWERS: [(Option<u64>, Answer); 13] = [
     (Some(34), Answer::File(MADE)),
     (Some(34), Answer::Dir(MADE)),
     (Some(34), Answer::Made(MADE)),
     (Some(34), Answer::Done),
     (Some(34), Answer::Fault(Errno::Eexist)),
     (Some(34), Answer::Fault(Errno::Eisdir)),
+    (Some(34), Answer::Fault(Errno::Enotdir)),
+    (Some(34), Answer::Fault(Errno::Enotempty)),
+    (Some(34), Answer::Fault(Errno::Estale)),
+    (Some(34), Answer::Fault(Errno::Enametoolong)),
     (None, Answer::Fault(Errno::Enomem)),
     (None, Answer::Fault(Errno::Enotconn)),
     (None, Answer::Fault(Errno::Eio)),
@@ -121,15 +140,21 @@ fn called(alloc: Global, call: CallNo, client: ClientNo) -> Result<Vec<Line>, Al
     let (root, name) = (Gfid::ROOT, Name::of(NAME));
     let looked_up = Bytes::new(NAME.to_vec(alloc)?);
     let made = Bytes::new(NAME.to_vec(alloc)?);
-    let none = Bytes::new(Vec::new(alloc));
+    let new = Bytes::new(NAME.to_vec(alloc)?);
+    let (none, nothing) = (Bytes::new(Vec::new(alloc)), Bytes::new(Vec::new(alloc)));
     Ok(vec![in alloc;
         Line::Volume(Weights::new(vec![in alloc; 0, 7]?)),
         Line::Remounted(Weights::new(vec![in alloc; 7, 0, 1000]?)),
         Line::Called(call, client, Call::Lookup(root, looked_up)),
         Line::Called(call, client, Call::Create(root, made)),
         Line::Called(call, client, Call::Unlink(MADE, none)),
+        Line::Called(call, client, Call::Mkdir(root, new)),
+        Line::Called(call, client, Call::Rmdir(MADE, nothing)),
+        Line::Called(call, client, Call::Heal(MADE)),
         Line::Tree(call, TreeStep::AddFile(root, name, MADE)),
         Line::Tree(call, TreeStep::RemoveFile(root, name)),
+        Line::Tree(call, TreeStep::AddDir(root, name, MADE)),
+        Line::Tree(call, TreeStep::RemoveDir(root, name)),
     ]?)
 }
 

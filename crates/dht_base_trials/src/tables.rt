@@ -2,7 +2,9 @@
 //! is empty or begins with `#` says nothing.
 
 use crate::events::{long_told, read_told};
-use crate::layouts::{hash_told, layout_told, linkto_told, plan_told, range_of_bytes_told};
+use crate::layouts::{
+    hash_told, layout_told, linkto_told, plan_told, planned_value_told, range_of_bytes_told,
+};
 use crate::values::{bytes_told, gfid_told, made_told, replay_told, volume_told};
 use std::alloc::{AllocError, Global};
 use std::process::Abort;
@@ -13,6 +15,7 @@ fn answer(alloc: Global, ask: &str) -> Result<String, AllocError> {
     match verb {
         "hash" => hash_told(alloc, words),
         "plan" => plan_told(alloc, words),
+        "value" => planned_value_told(alloc, words),
         "layout" => layout_told(alloc, words),
         "range" => range_of_bytes_told(alloc, words),
         "linkto" => linkto_told(alloc, words),

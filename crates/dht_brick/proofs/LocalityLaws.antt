@@ -45,7 +45,7 @@ tied Greater e = cc
 apart : {K : Type 0} {R : K → K → Ordering} → IsAntisymmetric R → (k q : K) → ◌≢◌ {A = Option K} (Some k) (Some q) → eq_by_cmp R q k ≡ false
 apart {R = R} exact k q differ = false_from_ne_true (eq_by_cmp R q k) (λ t. differ (ap Some (sym (exact q k (tied (R q k) t)))))
 
-insert_dir : (dirs : Dirs) (g : Gfid) (r : DirRecord) (h : Gfid) → Some g ≢ Some h → get (insert dirs g r) h ≡ get dirs h
+pub insert_dir : (dirs : Dirs) (g : Gfid) (r : DirRecord) (h : Gfid) → Some g ≢ Some h → get (insert dirs g r) h ≡ get dirs h
 insert_dir dirs g r h differ = get-insert_other gfid_total dirs g r h (apart gfid_exact g h differ)
 
 insert_file : (files : Files) (f : Gfid) (r : Record) (h : Gfid) → Some f ≢ Some h → get (insert files f r) h ≡ get files h

@@ -7,6 +7,7 @@ ghost use Rattle.dht_brick.specs.Named.{key_named, name_named, file_named, file_
 use dht_guard::FileRow;
 use dht_types::bytes::Bytes;
 use dht_types::identifiers::{BrickNo, CallNo, Gfid};
+use dht_types::layouts::LayoutValue;
 use dht_types::lines::RequestKind;
 use dht_types::linktos::LinktoValue;
 use dht_types::locks::{Key, Mode};
@@ -25,7 +26,7 @@ pub enum NameRequest {
     /// The record of a directory.
     Dirinfo(Gfid),
     /// Gives a directory's record this attribute, or none.
-    SetLayout(Gfid, Option<Bytes>),
+    SetLayout(Gfid, Option<LayoutValue>),
     /// Makes a directory at a name of a directory: a copy of it on this brick, with its depth and
     /// its attribute.
     MakeDir {
@@ -33,7 +34,7 @@ pub enum NameRequest {
         name: Name,
         made: Gfid,
         depth: u16,
-        value: Option<Bytes>,
+        value: Option<LayoutValue>,
     },
     /// Takes away the copy of the directory that stands at this name, if nothing stands in it.
     DropDir(Gfid, Name, Gfid),

@@ -7,6 +7,7 @@ ghost use Rattle.dht_types.specs.Saved.{IsValue};
 use crate::fault::Fault;
 use dht_types::bytes::Bytes;
 use dht_types::identifiers::{BrickNo, Gfid};
+use dht_types::layouts::LayoutValue;
 use dht_types::linktos::{LONGEST_LINKTO, LinktoValue};
 use dht_types::locks::{Key, Mode};
 use dht_types::names::{LONGEST_NAME, Name};
@@ -222,6 +223,21 @@ impl<'a> Words<'a> {
             return None;
         }
         Some(bytes)
+    }
+
+    /// The attribute of a directory as a request carries it, of 16 bytes, or none.
+    pub(crate) fn layout(&mut self) -> Option<LayoutValue>
+        ensures same { self.new.bricks ≡ self.old.bricks }
+        ensures short { IfSome result IsValue }
+    {
+        let value = self.value()?;
+        match <[u8; 16]>::try_from(value.as_slice()) {
+            Ok(bytes) => Some(LayoutValue::new(bytes)),
+            Err(_) => {
+                self.is_refused = true;
+                None
+            }
+        }
     }
 
     /// The key of a lock.

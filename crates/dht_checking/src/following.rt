@@ -44,7 +44,10 @@ fn is_named(past: &[Line], call: &Call<Gfid>, event: &Call<Directory>) -> bool {
     let is_same_verb = match (call, event) {
         (Call::Lookup(_, _), Call::Lookup(_, _)) => true,
         (Call::Create(_, _), Call::Create(_, _)) => true,
+        (Call::Mkdir(_, _), Call::Mkdir(_, _)) => true,
         (Call::Unlink(_, _), Call::Unlink(_, _)) => true,
+        (Call::Rmdir(_, _), Call::Rmdir(_, _)) => true,
+        (Call::Heal(_), Call::Heal(_)) => true,
         _ => false,
     };
     let is_same_directory = named_gfid(past, event.directory()) == Some(call.directory());
@@ -257,10 +260,14 @@ pub fn comes_from(events: &[Event], past: &[Line], line: &Line) -> Result<(), De
 
 /// `cost`: how many steps a call takes at most.
 fn cost(bricks: u64, call: &Call<Gfid>) -> u64 {
-    match call {
-        Call::Lookup(_, _) | Call::Unlink(_, _) => bricks.saturating_mul(2).saturating_add(10),
-        Call::Create(_, _) => bricks.saturating_mul(263).saturating_add(216),
-    }
+    let (each_brick, more) = match call {
+        Call::Lookup(_, _) | Call::Unlink(_, _) => (2, 10),
+        Call::Create(_, _) => (263, 216),
+        Call::Mkdir(_, _) => (264, 216),
+        Call::Rmdir(_, _) => (5, 20),
+        Call::Heal(_) => (260, 200),
+    };
+    bricks.saturating_mul(each_brick).saturating_add(more)
 }
 
 /// `InTime`: the line is no step of a call that has used up its cost, and no lock of the call waits,

@@ -5,26 +5,6 @@ use dht_types::errors::Errno;
 use dht_types::identifiers::{BrickNo, CallNo, ClientNo, Gfid};
 use dht_types::lines::{Line, ReplyKind, RequestKind};
 
-/// A step that a tree tells a call to do. Its name is what the call says, which may be any bytes.
-#[derive(Clone, Copy)]
-pub enum Told<'a> {
-    /// In this directory this name is to be this file's.
-    AddFile(Gfid, &'a [u8], Gfid),
-    /// In this directory this name is to stand for nothing.
-    RemoveFile(Gfid, &'a [u8]),
-}
-
-/// What a tree says to a call. No call does more than one step.
-#[derive(Clone, Copy)]
-pub enum Said<'a> {
-    /// It is refused.
-    Refuse(Errno),
-    /// It is to say this.
-    Say(Answer),
-    /// It is to do this step, and then to say this.
-    Do(Told<'a>, Answer),
-}
-
 /// The first tree line of a call.
 #[derive(Clone, Copy)]
 pub struct Deed<'a> {
@@ -51,7 +31,7 @@ pub struct Running<'a> {
     pub first: Option<Deed<'a>>,
 }
 
-/// The tree line that must come next: for a request of this kind, which this brick carried out.
+/// The tree line that comes next: for a request of this kind, which this brick carried out.
 #[derive(Clone, Copy)]
 pub struct Owed {
     /// The call that sent the request.
@@ -64,83 +44,25 @@ pub struct Owed {
     pub request: RequestKind,
 }
 
-/// Whether a gfid is a directory of the tree: no step makes one.
-pub fn is_directory(gfid: Gfid) -> bool {
-    gfid == Gfid::ROOT
-}
-
-/// The file at a name of a directory, in the tree after these lines.
-pub fn file_at(past: &[Line], directory: Gfid, name: &[u8]) -> Option<Gfid> {
-    let mut found = None;
-    for line in past {
-        if let Line::Tree(_, step) = line {
-            let (at, called) = slot_of(step);
-            if at == directory && called == name {
-                found = match step {
-                    TreeStep::AddFile(_, _, file) => Some(*file),
-                    TreeStep::RemoveFile(_, _) => None,
-                };
-            }
-        }
-    }
-    found
-}
-
-/// Whether the tree after these lines has the bytes of a file, which it keeps without a name too.
-pub fn has_file(past: &[Line], file: Gfid) -> bool {
-    let mut found = false;
-    for line in past {
-        if let Line::Tree(_, TreeStep::AddFile(_, _, made)) = line {
-            found = found || *made == file;
-        }
-    }
-    found
-}
-
-/// What the tree after these lines says to a call that would make this file.
-pub fn says<'a>(past: &[Line], call: &'a Call<Gfid>, file: Gfid) -> Said<'a> {
-    let (directory, name) = (call.directory(), call.name());
-    if !is_directory(directory) {
-        return Said::Refuse(Errno::Estale);
-    }
-    match (call, file_at(past, directory, name)) {
-        (Call::Lookup(_, _), Some(found)) => Said::Say(Answer::File(found)),
-        (Call::Lookup(_, _) | Call::Unlink(_, _), None) => Said::Refuse(Errno::Enoent),
-        (Call::Create(_, _), Some(_)) => Said::Refuse(Errno::Eexist),
-        (Call::Create(_, _), None) => {
-            Said::Do(Told::AddFile(directory, name, file), Answer::Made(file))
-        }
-        (Call::Unlink(_, _), Some(_)) => Said::Do(Told::RemoveFile(directory, name), Answer::Done),
-    }
-}
-
-/// The file that a step makes. For one that makes none it is the root, which no answer names.
-pub fn made_in(step: &TreeStep) -> Gfid {
-    match step {
-        TreeStep::AddFile(_, _, file) => *file,
-        TreeStep::RemoveFile(_, _) => Gfid::ROOT,
-    }
-}
-
-/// The directory of the name that a step changes, and the name.
-pub fn slot_of(step: &TreeStep) -> (Gfid, &[u8]) {
-    match step {
-        TreeStep::AddFile(directory, name, _) => (*directory, name.as_bytes()),
-        TreeStep::RemoveFile(directory, name) => (*directory, name.as_bytes()),
-    }
-}
-
-/// Whether a request changes the tree, where this was the reply.
+/// Whether a request changes the tree on whichever brick it was carried out, where this was the reply.
 pub fn is_change(request: RequestKind, reply: ReplyKind) -> bool {
     let changes = request == RequestKind::Create || request == RequestKind::Unlink;
     changes && reply == ReplyKind::Ok
 }
 
-/// The tree line that is owed after these lines.
-pub fn line_owed(past: &[Line]) -> Option<Owed> {
+/// Whether a request changes the tree where the brick is the home of the directory that it makes or
+/// takes away, where this was the reply.
+pub fn is_dir_change(request: RequestKind, reply: ReplyKind) -> bool {
+    let changes = request == RequestKind::MakeDir || request == RequestKind::DropDir;
+    changes && reply == ReplyKind::Ok
+}
+
+/// The tree line that may come next after these lines.
+pub fn line_due(past: &[Line]) -> Option<Owed> {
     match past.last() {
         Some(Line::Stepped(call, client, brick, request, reply)) => {
-            is_change(*request, *reply).then_some(Owed {
+            let may_change = is_change(*request, *reply) || is_dir_change(*request, *reply);
+            may_change.then_some(Owed {
                 call: *call,
                 client: *client,
                 brick: *brick,
@@ -149,6 +71,13 @@ pub fn line_owed(past: &[Line]) -> Option<Owed> {
         }
         _ => None,
     }
+}
+
+/// The tree line that has to come next after these lines. That of a directory's request need not: a
+/// line does not tell whether its brick is the directory's home.
+pub fn line_owed(past: &[Line]) -> Option<Owed> {
+    let due = line_due(past)?;
+    is_change(due.request, ReplyKind::Ok).then_some(due)
 }
 
 /// How many calls were accepted.
@@ -312,7 +241,7 @@ pub fn call_running<'a>(past: &'a [Line], client: u64) -> Option<Running<'a>> {
                 }
             }
             Line::Tree(_, step) => {
-                if let (Some(call), Some(owed)) = (&mut running, line_owed(&past[..index])) {
+                if let (Some(call), Some(owed)) = (&mut running, line_due(&past[..index])) {
                     if u64::from(owed.client.0) == client {
                         call.changes = call.changes.saturating_add(1);
                         call.first = call.first.or(Some(Deed {

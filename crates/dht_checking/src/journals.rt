@@ -1,6 +1,7 @@
 //! `Logged`: whether the bricks' journals tell what the lines do.
 
-use crate::history::{is_change, line_owed, slot_of};
+use crate::history::{is_change, line_due, line_owed};
+use crate::trees::slot_of;
 use crate::verdict::{Definition, require};
 use dht_types::identifiers::{BrickNo, CallNo, ClientNo, Gfid};
 use dht_types::lines::{Line, ReplyKind, RequestKind};
@@ -30,7 +31,7 @@ pub struct Entry {
 enum Among {
     /// All of them, each of which has a step line or a wait line.
     All,
-    /// Those that changed the tree, each of which has a tree line.
+    /// Those that changed the tree on whichever brick, each of which has a tree line.
     Changes,
 }
 
@@ -81,6 +82,18 @@ fn changes_at(past: &[Line], brick: BrickNo) -> usize {
     count
 }
 
+/// The entry of the request above a tree line: of those that change the tree on any brick the next that
+/// did so, and else the last that the brick served.
+fn entry_of_tree(past: &[Line], entries: &[Entry]) -> Option<Entry> {
+    if let Some(owed) = line_owed(past) {
+        let number = changes_at(past, owed.brick);
+        return entry_at(entries, owed.brick, number, Among::Changes);
+    }
+    let due = line_due(past)?;
+    let last = served_at(past, due.brick).checked_sub(1)?;
+    entry_at(entries, due.brick, last, Among::All)
+}
+
 /// Whether the entry that a line tells of is of this call, and tells of this request and this reply.
 fn is_entry(
     entry: Option<Entry>,
@@ -102,20 +115,19 @@ fn is_entry(
 
 /// The journal of the line's brick has the entry that the line tells of, at its place.
 pub fn logged(past: &[Line], line: &Line, entries: &[Entry]) -> Result<(), Definition> {
-    let is_logged = match (line, line_owed(past)) {
-        (Line::Stepped(_, _, _, _, ReplyKind::Down), _) => true,
-        (Line::Stepped(call, client, brick, request, reply), _) => {
+    let is_logged = match line {
+        Line::Stepped(_, _, _, _, ReplyKind::Down) => true,
+        Line::Stepped(call, client, brick, request, reply) => {
             let entry = entry_at(entries, *brick, served_at(past, *brick), Among::All);
             is_entry(entry, *call, *client, *request, *reply)
         }
-        (Line::Waited(call, client, brick, _), _) => {
+        Line::Waited(call, client, brick, _) => {
             let entry = entry_at(entries, *brick, served_at(past, *brick), Among::All);
             is_entry(entry, *call, *client, RequestKind::Lock, ReplyKind::Wait)
         }
-        (Line::Tree(_, step), Some(owed)) => {
-            let number = changes_at(past, owed.brick);
+        Line::Tree(_, step) => {
             let (directory, name) = slot_of(step);
-            match entry_at(entries, owed.brick, number, Among::Changes) {
+            match entry_of_tree(past, entries) {
                 Some(entry) => entry.directory == directory && entry.name.as_bytes() == name,
                 None => false,
             }

@@ -69,13 +69,15 @@ pub const REPLIES: [(&str, ReplyKind); 17] = [
 ];
 
 /// The word of each error of a call.
-pub const ERRORS: [(&str, Errno); 9] = [
+pub const ERRORS: [(&str, Errno); 11] = [
     ("enoent", Errno::Enoent),
     ("enomem", Errno::Enomem),
     ("eexist", Errno::Eexist),
     ("einval", Errno::Einval),
     ("enametoolong", Errno::Enametoolong),
+    ("enotdir", Errno::Enotdir),
     ("eisdir", Errno::Eisdir),
+    ("enotempty", Errno::Enotempty),
     ("estale", Errno::Estale),
     ("enotconn", Errno::Enotconn),
     ("eio", Errno::Eio),

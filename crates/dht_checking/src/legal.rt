@@ -1,8 +1,11 @@
 //! `Legal`: whether a line may come next.
 
 use crate::history::{
-    Deed, Running, Said, Told, bricks, call_running, calls, file_at, has_file, is_dead,
-    is_directory, is_quiet, line_owed, made_in, run, says, slot_of, was_replied,
+    Deed, Running, bricks, call_running, calls, is_dead, is_quiet, line_due, line_owed, run,
+    was_replied,
+};
+use crate::trees::{
+    Node, Said, Told, has_file, is_directory, is_empty, is_shallow, made_in, node_at, says, slot_of,
 };
 use crate::verdict::{Definition, require};
 use dht_types::calls::{Answer, Call, TreeStep};
@@ -15,7 +18,13 @@ fn is_same_step(told: &Told<'_>, step: &TreeStep) -> bool {
         (Told::AddFile(directory, name, file), TreeStep::AddFile(at, called, made)) => {
             directory == *at && name == called.as_bytes() && file == *made
         }
+        (Told::AddDir(directory, name, dir), TreeStep::AddDir(at, called, made)) => {
+            directory == *at && name == called.as_bytes() && dir == *made
+        }
         (Told::RemoveFile(directory, name), TreeStep::RemoveFile(at, called)) => {
+            directory == *at && name == called.as_bytes()
+        }
+        (Told::RemoveDir(directory, name), TreeStep::RemoveDir(at, called)) => {
             directory == *at && name == called.as_bytes()
         }
         _ => false,
@@ -46,7 +55,23 @@ fn is_of(request: RequestKind, step: &TreeStep) -> bool {
     match (request, step) {
         (RequestKind::Create, TreeStep::AddFile(_, _, _)) => true,
         (RequestKind::Unlink, TreeStep::RemoveFile(_, _)) => true,
+        (RequestKind::MakeDir, TreeStep::AddDir(_, _, _)) => true,
+        (RequestKind::DropDir, TreeStep::RemoveDir(_, _)) => true,
         _ => false,
+    }
+}
+
+/// `IsAtHome`: whether a directory is made or taken away where its home makes or drops its copy.
+fn is_at_home(past: &[Line], brick: BrickNo, step: &TreeStep) -> bool {
+    match step {
+        TreeStep::AddFile(_, _, _) | TreeStep::RemoveFile(_, _) => true,
+        TreeStep::AddDir(_, _, made) => made.home() == brick,
+        TreeStep::RemoveDir(directory, name) => {
+            match node_at(past, *directory, name.as_bytes()) {
+                Some(Node::Dir(dir)) => dir.home() == brick,
+                _ => true,
+            }
+        }
     }
 }
 
@@ -61,12 +86,17 @@ fn is_next(past: &[Line], running: &Running<'_>, step: &TreeStep) -> bool {
 /// `Fits`: whether a step can be done.
 fn fits(past: &[Line], step: &TreeStep) -> bool {
     let (directory, name) = slot_of(step);
-    let found = file_at(past, directory, name);
-    match step {
-        TreeStep::AddFile(_, _, file) => {
-            is_directory(directory) && found.is_none() && !has_file(past, *file)
+    match (step, node_at(past, directory, name)) {
+        (TreeStep::AddFile(_, _, file), None) => {
+            is_directory(past, directory) && !has_file(past, *file)
         }
-        TreeStep::RemoveFile(_, _) => found.is_some(),
+        (TreeStep::AddDir(_, _, made), None) => {
+            let is_new = !is_directory(past, *made);
+            is_directory(past, directory) && is_shallow(past, directory) && is_new
+        }
+        (TreeStep::RemoveFile(_, _), Some(Node::File(_))) => true,
+        (TreeStep::RemoveDir(_, _), Some(Node::Dir(dir))) => is_empty(past, dir),
+        _ => false,
     }
 }
 
@@ -76,18 +106,20 @@ fn is_own(run: u32, client: ClientNo, number: CallNo, gfid: Gfid) -> bool {
     Gfid::made(run, client, number, home) == gfid
 }
 
-/// `MakesOwn`: whether the file that a step makes, if it makes one, is this call's own.
+/// `MakesOwn`: whether the file or directory that a step makes, if it makes one, is this call's own.
 fn makes_own(run: u32, client: ClientNo, number: CallNo, step: &TreeStep) -> bool {
     match step {
-        TreeStep::AddFile(_, _, file) => is_own(run, client, number, *file),
-        TreeStep::RemoveFile(_, _) => true,
+        TreeStep::AddFile(_, _, made) | TreeStep::AddDir(_, _, made) => {
+            is_own(run, client, number, *made)
+        }
+        TreeStep::RemoveFile(_, _) | TreeStep::RemoveDir(_, _) => true,
     }
 }
 
-/// `refusal_at_once`: why a call is refused before its first request. Its name is empty, `.` or `..`,
+/// `refusal_at_once`: why a call with a name is refused before its first request. The name is empty, `.` or `..`,
 /// or has a slash or a zero byte, or else it is too long.
 pub fn refusal_at_once(call: &Call<Gfid>) -> Option<Errno> {
-    let name = call.name();
+    let name = call.name()?;
     let is_dots = name == b".".as_slice() || name == b"..".as_slice();
     if name.is_empty() || is_dots || name.contains(&b'/') || name.contains(&0) {
         return Some(Errno::Einval);
@@ -175,18 +207,22 @@ fn answers(
             require(at.is_none() && has_failed, Definition::FaultHolds)
         }
         Answer::Fault(Errno::Einval) => is_at_once(running, at, Errno::Einval),
-        Answer::Fault(Errno::Enametoolong) => is_at_once(running, at, Errno::Enametoolong),
+        // of a name that is too long, or of a directory that is too deep to have one in it
+        Answer::Fault(Errno::Enametoolong) if at.is_none() => {
+            is_at_once(running, at, Errno::Enametoolong)
+        }
         _ => has_point(past, running, at, answer),
     }
 }
 
 /// A tree line may come next: it stands directly under the line of its request.
 fn tree_follows(past: &[Line], number: CallNo, step: &TreeStep) -> Result<(), Definition> {
-    let Some(owed) = line_owed(past) else {
+    let Some(owed) = line_due(past) else {
         return Err(Definition::Follows);
     };
     require(owed.call == number, Definition::Follows)?;
     require(is_of(owed.request, step), Definition::IsOf)?;
+    require(is_at_home(past, owed.brick, step), Definition::IsAtHome)?;
     match is_in(past, owed.client, number) {
         Some(running) => require(is_next(past, &running, step), Definition::IsNext)?,
         None => return Err(Definition::IsIn),

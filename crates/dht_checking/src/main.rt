@@ -48,6 +48,7 @@ mod journals;
 mod kinds;
 mod legal;
 mod reading;
+mod trees;
 mod verdict;
 
 use cases::Case;

@@ -76,7 +76,7 @@ fn name(alloc: Global, word: &str) -> Result<Option<Bytes>, AllocError> {
     Ok((!bytes.is_empty()).then_some(Bytes::new(bytes)))
 }
 
-/// The name of a file that a word spells.
+/// The name of a file or directory that a word spells.
 fn file_name(alloc: Global, word: &str) -> Result<Option<Name>, AllocError> {
     let Some(bytes) = name(alloc, word)? else {
         return Ok(None);
@@ -88,7 +88,9 @@ fn call<D: Drop>(verb: &str, directory: D, name: Bytes) -> Option<Call<D>> {
     match verb {
         "lookup" => Some(Call::Lookup(directory, name)),
         "create" => Some(Call::Create(directory, name)),
+        "mkdir" => Some(Call::Mkdir(directory, name)),
         "unlink" => Some(Call::Unlink(directory, name)),
+        "rmdir" => Some(Call::Rmdir(directory, name)),
         _ => None,
     }
 }
@@ -132,6 +134,7 @@ fn weights(alloc: Global, count: &str, words: &[&str]) -> Result<Option<Weights>
 fn event_of_words(words: &[&str]) -> Option<Event> {
     match words {
         ["step", who] => Some(Event::Step(number(who)?)),
+        ["call", who, "heal", at] => Some(Event::Call(number(who)?, Call::Heal(directory(at)?))),
         ["down", at] => Some(Event::Down(number(at)?)),
         ["up", at] => Some(Event::Up(number(at)?)),
         ["die", who] => Some(Event::Die(number(who)?)),
@@ -202,6 +205,11 @@ fn line_of_words(words: &[&str]) -> Option<Line> {
             BrickNo(small(at)?),
             ClientNo(small(holder)?),
         )),
+        ["call", nth, who, "heal", at] => Some(Line::Called(
+            CallNo(number(nth)?),
+            ClientNo(small(who)?),
+            Call::Heal(gfid(at)?),
+        )),
         ["answer", nth, who, rest @ ..] => answered(nth, who, rest),
         ["down", at] => Some(Line::WentDown(BrickNo(small(at)?))),
         ["up", at] => Some(Line::CameUp(BrickNo(small(at)?))),
@@ -221,7 +229,9 @@ fn line_of_call(nth: &str, who: &str, verb: &str, at: &str, name: Bytes) -> Opti
 fn line_of_tree(nth: &str, change: &str, at: &str, name: Name, rest: &[&str]) -> Option<Line> {
     let step = match (change, rest) {
         ("add-file", [file]) => TreeStep::AddFile(gfid(at)?, name, gfid(file)?),
+        ("add-dir", [made]) => TreeStep::AddDir(gfid(at)?, name, gfid(made)?),
         ("remove-file", []) => TreeStep::RemoveFile(gfid(at)?, name),
+        ("remove-dir", []) => TreeStep::RemoveDir(gfid(at)?, name),
         _ => return None,
     };
     Some(Line::Tree(CallNo(number(nth)?), step))

@@ -18,6 +18,8 @@ pub enum Definition {
     IsIn,
     /// The request does not stand for such a step of the tree.
     IsOf,
+    /// The brick is not the home of the directory that the step makes or takes away.
+    IsAtHome,
     /// The step is not the next of its call.
     IsNext,
     /// The step cannot be done.

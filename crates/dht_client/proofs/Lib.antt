@@ -1,3 +1,2 @@
-pub mod FoundLaws
 pub mod ProgramSteps
 pub mod ClientSteps

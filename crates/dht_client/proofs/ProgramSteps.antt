@@ -1,43 +1,98 @@
--- Where a program is, by its call.
-use Rattle.std.proofs.Common.{◌≡◌, ℕ, ap, subst, sym}
+-- Where a program is, by its call, and how a reply takes it on.
+use Rattle.std.proofs.Common.{◌≡◌, ◌∙◌, ℕ, ap, subst, sym}
 use Rattle.dht_brick.specs.declared.replies.Reply.{Reply}
+use Rattle.dht_section.proofs.PartSteps.{ends_as, goes_as, part_goes_on, part_served}
+use Rattle.dht_section.specs.AsCallLaws.{may_answer_as_itself}
 use Rattle.dht_section.specs.Ended.{ended}
 use Rattle.dht_section.specs.Scene.{Scene}
-use Rattle.dht_section.specs.Stages.{EndsIn, Served}
+use Rattle.dht_section.specs.Stages.{EndsIn, GoesOn, Served, Stage}
 use Rattle.dht_section.specs.declared.ended.Ended.{Ended}
+use Rattle.dht_section.specs.declared.location.Location.{Location}
+use Rattle.dht_types.specs.declared.calls.Call.TheVariants as call
 use Rattle.dht_resolve.specs.Lookup.{as_ended, lookup_stage, resolved}
+use Rattle.dht_resolve.specs.LookupName.{lookup_location}
 use Rattle.dht_resolve.specs.declared.lookup.Lookup.{Lookup}
 use Rattle.dht_resolve.specs.declared.lookup.Resolved.{Resolved}
 use Rattle.dht_fileops.specs.Create.{create_stage}
 use Rattle.dht_fileops.specs.Unlink.{unlink_stage}
 use Rattle.dht_fileops.specs.declared.create.Create.{Create}
 use Rattle.dht_fileops.specs.declared.unlink.Unlink.{Unlink}
-use Rattle.dht_client.proofs.FoundLaws.{LooksFree, create_never, unlink_never}
-use Rattle.dht_client.specs.Program.{program_stage}
+use Rattle.dht_heal.specs.HealCall.{call_stage}
+use Rattle.dht_heal.specs.declared.call.HealCall.{HealCall}
+use Rattle.dht_dirops.specs.Mkdir.{mkdir_stage}
+use Rattle.dht_dirops.specs.declared.mkdir.Mkdir.{Mkdir}
+use Rattle.dht_dirops.specs.Rmdir.{rmdir_stage}
+use Rattle.dht_dirops.specs.declared.rmdir.Rmdir.{Rmdir}
+use Rattle.dht_client.specs.Program.{IsLookup, IsNoHeal, of_lookup, program_ended, program_stage, without_heal}
 use Rattle.dht_client.specs.declared.program.Program.{Program}
-use Rattle.dht_client.specs.declared.program.Program.TheVariants.{LookingUp, Creating, Unlinking}
+use Rattle.dht_client.specs.declared.program.Program.TheVariants.{LookingUp, Creating, Making, Unlinking, Removing, Healing}
 
-pub is_lookup : (p : Program) (m : Lookup) → p ≡ LookingUp m → program_stage p ≡ lookup_stage m
+-- ---- where it is
+
+pub at_lookup : (p : Program) (m : Lookup) → p ≡ LookingUp m → program_stage p ≡ of_lookup (lookup_location m) (lookup_stage m)
 unfolding program_stage
-is_lookup p m e = ap program_stage e
+at_lookup p m e = ap program_stage e
 
-pub is_create : (p : Program) (m : Create) → p ≡ Creating m → program_stage p ≡ create_stage m
+pub at_create : (p : Program) (m : Create) → p ≡ Creating m → program_stage p ≡ without_heal (create_stage m)
 unfolding program_stage
-is_create p m e = ap program_stage e
+at_create p m e = ap program_stage e
 
-pub is_unlink : (p : Program) (m : Unlink) → p ≡ Unlinking m → program_stage p ≡ unlink_stage m
+pub at_mkdir : (p : Program) (m : Mkdir) → p ≡ Making m → program_stage p ≡ without_heal (mkdir_stage m)
 unfolding program_stage
-is_unlink p m e = ap program_stage e
+at_mkdir p m e = ap program_stage e
 
--- a lookup that ends has earned its answer
-pub lookup_ends : (m : Lookup) (d : Resolved) (end : Ended) (r : Reply) (at : ℕ) (s t : Scene) → end ≡ as_ended d → (Served (lookup_stage m) r at s t → EndsIn (lookup_stage m) (resolved d) t) → Served (lookup_stage m) r at s t → EndsIn (lookup_stage m) (ended end) t
-lookup_ends m d end r at s t e f h =
-    let k = f h in
-    subst (λ (x : Ended). EndsIn (lookup_stage m) (ended x) t) (sym e) (record { claims = k.claims; earned = k.earned.0 })
+pub at_unlink : (p : Program) (m : Unlink) → p ≡ Unlinking m → program_stage p ≡ without_heal (unlink_stage m)
+unfolding program_stage
+at_unlink p m e = ap program_stage e
 
--- a create looks under locks alone, and so does an unlink
-pub create_never_looks : {X : Type 0} (p : Program) (m : Create) → p ≡ Creating m → LooksFree (program_stage p) → X
-create_never_looks p m e h = absurd (create_never m (subst LooksFree (is_create p m e) h))
+pub at_rmdir : (p : Program) (m : Rmdir) → p ≡ Removing m → program_stage p ≡ without_heal (rmdir_stage m)
+unfolding program_stage
+at_rmdir p m e = ap program_stage e
 
-pub unlink_never_looks : {X : Type 0} (p : Program) (m : Unlink) → p ≡ Unlinking m → LooksFree (program_stage p) → X
-unlink_never_looks p m e h = absurd (unlink_never m (subst LooksFree (is_unlink p m e) h))
+pub at_heal : (p : Program) (m : HealCall) → p ≡ Healing m → program_stage p ≡ call_stage m
+unfolding program_stage
+at_heal p m e = ap program_stage e
+
+-- ---- a call that is no heal
+
+still_no_heal : (x : Stage) (r : Reply) (at : ℕ) (s t : Scene) → Served (without_heal x) r at s t → IsNoHeal t
+still_no_heal x r at s t h = λ d e. h.is_at.knows.1 d (sym h.moved.mine.call ∙ e)
+
+no_heal_goes : (x y : Stage) (r : Reply) (at : ℕ) (s t : Scene) → (Served x r at s t → GoesOn x y r t) → Served (without_heal x) r at s t → GoesOn (without_heal x) (without_heal y) r t
+no_heal_goes x y r at s t f h = part_goes_on x y 0 IsNoHeal IsNoHeal r t (f (part_served x 0 IsNoHeal r at s t h)) (still_no_heal x r at s t h)
+
+no_heal_ends : (x : Stage) (end : Ended) (r : Reply) (at : ℕ) (s t : Scene) → (Served x r at s t → EndsIn x (ended end) t) → Served (without_heal x) r at s t → EndsIn (without_heal x) (program_ended end) t
+no_heal_ends x end r at s t f h =
+    let k = f (part_served x 0 IsNoHeal r at s t h) in
+    let none = still_no_heal x r at s t h in
+    record { claims = k.claims; earned = (k.earned, λ d e done alone. absurd (none d e)) }
+
+pub goes_without_heal : (p q : Program) (x y : Stage) (r : Reply) (at : ℕ) (s t : Scene) → program_stage p ≡ without_heal x → program_stage q ≡ without_heal y → (Served x r at s t → GoesOn x y r t) → Served (program_stage p) r at s t → GoesOn (program_stage p) (program_stage q) r t
+goes_without_heal p q x y r at s t e k f h = goes_as (program_stage p) (without_heal x) (program_stage q) (without_heal y) r at s t e k (no_heal_goes x y r at s t f) h
+
+pub ends_without_heal : (p : Program) (x : Stage) (end : Ended) (r : Reply) (at : ℕ) (s t : Scene) → program_stage p ≡ without_heal x → (Served x r at s t → EndsIn x (ended end) t) → Served (program_stage p) r at s t → EndsIn (program_stage p) (program_ended end) t
+ends_without_heal p x end r at s t e f h = ends_as (program_stage p) (without_heal x) (program_ended end) r at s t e (no_heal_ends x end r at s t f) h
+
+-- ---- a lookup
+
+still_lookup : (l : Location) (x : Stage) (r : Reply) (at : ℕ) (s t : Scene) → Served (of_lookup l x) r at s t → IsLookup l t
+still_lookup l x r at s t h = h.moved.mine.call ∙ h.is_at.knows.1
+
+lookup_goes_on : (l k : Location) (x y : Stage) (r : Reply) (at : ℕ) (s t : Scene) → k ≡ l → (Served x r at s t → GoesOn x y r t) → Served (of_lookup l x) r at s t → GoesOn (of_lookup l x) (of_lookup k y) r t
+lookup_goes_on l k x y r at s t e f h = part_goes_on x y 0 (λ s. IsLookup l s) (λ s. IsLookup k s) r t (f (part_served x 0 (λ s. IsLookup l s) r at s t h)) (subst (λ (i : Location). IsLookup i t) (sym e) (still_lookup l x r at s t h))
+
+pub lookup_goes : (p q : Program) (m n : Lookup) (r : Reply) (at : ℕ) (s t : Scene) → p ≡ LookingUp m → q ≡ LookingUp n → lookup_location n ≡ lookup_location m → (Served (lookup_stage m) r at s t → GoesOn (lookup_stage m) (lookup_stage n) r t) → Served (program_stage p) r at s t → GoesOn (program_stage p) (program_stage q) r t
+lookup_goes p q m n r at s t e k same f h = goes_as (program_stage p) (of_lookup (lookup_location m) (lookup_stage m)) (program_stage q) (of_lookup (lookup_location n) (lookup_stage n)) r at s t (at_lookup p m e) (at_lookup q n k) (lookup_goes_on (lookup_location m) (lookup_location n) (lookup_stage m) (lookup_stage n) r at s t same f) h
+
+-- it has earned its answer
+lookup_earns : (l : Location) (x : Stage) (d : Resolved) (r : Reply) (at : ℕ) (s t : Scene) → d.answered.location ≡ l → (Served x r at s t → EndsIn x (resolved d) t) → Served (of_lookup l x) r at s t → EndsIn (of_lookup l x) (program_ended (as_ended d)) t
+lookup_earns l x d r at s t e f h =
+    let k = f (part_served x 0 (λ s. IsLookup l s) r at s t h) in
+    let it : IsLookup d.answered.location t = subst (λ (i : Location). IsLookup i t) (sym e) (still_lookup l x r at s t h) in
+    record {
+      claims = k.claims;
+      earned = (may_answer_as_itself (call.Lookup d.answered.location.directory d.answered.location.name) d.answered.finish t it k.earned.0.told, λ g heal done alone. absurd (let z : call.Lookup d.answered.location.directory d.answered.location.name ≡ call.Heal g = sym it ∙ heal in cc));
+    }
+
+pub lookup_ends : (p : Program) (m : Lookup) (d : Resolved) (end : Ended) (r : Reply) (at : ℕ) (s t : Scene) → p ≡ LookingUp m → end ≡ as_ended d → d.answered.location ≡ lookup_location m → (Served (lookup_stage m) r at s t → EndsIn (lookup_stage m) (resolved d) t) → Served (program_stage p) r at s t → EndsIn (program_stage p) (program_ended end) t
+lookup_ends p m d end r at s t e k same f h = subst (λ (x : Ended). EndsIn (program_stage p) (program_ended x) t) (sym k) (ends_as (program_stage p) (of_lookup (lookup_location m) (lookup_stage m)) (program_ended (as_ended d)) r at s t (at_lookup p m e) (lookup_earns (lookup_location m) (lookup_stage m) d r at s t same f) h)

@@ -1,14 +1,16 @@
 -- Where a client is: where its running call is.
 use Rattle.std.specs.Prelude.{ℕ, ◌+◌, ◌*◌, ◌≡◌, ◌⊎◌, Bool, true, false, is_some, nat_lt, ◌==◌, if◌then◌else◌, Option, Some, None, MatchOption, List, [], ◌∷◌, length}
-use Rattle.dht_types.specs.Gfid.{root, anchor}
+use Rattle.dht_types.specs.Calls.{directory_of, name_of}
+use Rattle.dht_types.specs.Cost.{heal_cost}
+use Rattle.dht_types.specs.Gfid.{root, anchor, home, same_gfid}
 use Rattle.dht_types.specs.declared.errors.Errno.{Errno}
 use Rattle.dht_types.specs.declared.identifiers.Gfid.{Gfid}
 use Rattle.dht_types.specs.declared.identifiers.CallNo.{CallNo}
 use Rattle.dht_types.specs.declared.identifiers.ClientNo.{ClientNo}
 use Rattle.dht_types.specs.declared.calls.Call.{Call}
-use Rattle.dht_types.specs.declared.calls.Call.TheVariants.{Lookup, Create, Unlink}
+use Rattle.dht_types.specs.declared.calls.Call.TheVariants.{Lookup, Create, Mkdir, Unlink, Rmdir, Heal}
 use Rattle.dht_types.specs.declared.locks.Key.TheVariants.{Dir}
-use Rattle.dht_types.specs.declared.locks.Mode.TheVariants.{Shared}
+use Rattle.dht_types.specs.declared.locks.Mode.TheVariants.{Shared, Exclusive}
 use Rattle.dht_brick.specs.declared.requests.NameRequest.TheVariants.{Look, Dirinfo}
 use Rattle.dht_brick.specs.declared.requests.Request.{Request}
 use Rattle.dht_brick.specs.declared.requests.Request.TheVariants.{Lock, OnNames}
@@ -22,13 +24,19 @@ use Rattle.dht_section.specs.declared.machine.Finish.{Finish}
 use Rattle.dht_section.specs.Location.{located}
 use Rattle.dht_resolve.specs.Cache.{CachedLayout, cached, layout_at}
 use Rattle.dht_resolve.specs.Lookup.{first_lookup, holder_in}
+use Rattle.dht_section.specs.declared.origin.Origin.{Origin}
+use Rattle.dht_heal.specs.Heal.{first_room}
+use Rattle.dht_heal.specs.HealCall.{first_call}
 use Rattle.dht_fileops.specs.Create.{first_create}
 use Rattle.dht_fileops.specs.Unlink.{first_unlink}
-use Rattle.dht_client.specs.Program.{program_stage, program_fault, program_layout, program_taught}
+use Rattle.dht_dirops.specs.Mkdir.{first_mkdir}
+use Rattle.dht_dirops.specs.Rmdir.{first_rmdir}
+use Rattle.dht_client.specs.Program.{is_lookup, program_stage, program_fault, program_layout, program_taught}
 use Rattle.dht_client.specs.declared.program.Program.{Program}
-use Rattle.dht_client.specs.declared.program.Program.TheVariants.{LookingUp, Creating, Unlinking}
+use Rattle.dht_client.specs.declared.program.Program.TheVariants.{LookingUp, Creating, Making, Unlinking, Removing, Healing}
 use Rattle.dht_client.specs.declared.calling.Client.{Client}
 use Rattle.dht_client.specs.declared.calling.Running.{Running}
+use Rattle.dht_client.specs.declared.calling.Subject.{Subject}
 
 abbrev pub client_number : Client → ClientNo
 client_number c = c.number
@@ -55,6 +63,19 @@ running_stage (Some x) = program_stage x.program
 
 abbrev pub client_stage : Client → Stage
 client_stage c = running_stage c.pending
+
+abbrev pub running_looks_up : Option Running → Bool
+running_looks_up None = false
+running_looks_up (Some x) = is_lookup x.program
+
+-- its call is a lookup
+abbrev pub client_looks_up : Client → Bool
+client_looks_up c = running_looks_up c.pending
+
+-- a call is a lookup
+abbrev pub is_lookup_call : Call Gfid → Bool
+is_lookup_call (Lookup d n) = true
+is_lookup_call call = false
 
 abbrev pub running_fault : Option Running → Option Errno
 running_fault None = None
@@ -115,13 +136,27 @@ pub record CallLearns (old : Client) (r : Reply) (answer : Option Finish) (new :
       (λ f. Remembers (client_directory old) (client_learned old) (client_cache old)
       (client_cache new))
 
--- the program of a call at its beginning, over so many bricks
-abbrev pub first_program : Client → ℕ → ℕ → CallNo → Call Gfid → Program
-first_program c bricks run k (Lookup d n) =
-    LookingUp (first_lookup (located bricks d n) (client_layout c d))
-first_program c bricks run k (Create d n) =
-    Creating (first_create bricks d n (record { run = run; client = c.number; call = k }))
-first_program c bricks run k (Unlink d n) = Unlinking (first_unlink bricks d n)
+-- what a call is about, over so many bricks
+abbrev pub subject_of : ℕ → Call Gfid → Subject
+subject_of bricks what =
+    record { directory = directory_of what; name = name_of what; bricks = bricks }
+
+-- what a call makes is known by the run, the client and the call
+abbrev pub origin_of : Client → ℕ → CallNo → Origin
+origin_of c run k = record { run = run; client = c.number; call = k }
+
+-- the program of a call at its beginning, over bricks of these weights
+abbrev pub first_program : Client → List ℕ → ℕ → CallNo → Call Gfid → Program
+first_program c ws run k (Lookup d n) =
+    LookingUp (first_lookup (located (length ws) d n) (client_layout c d))
+first_program c ws run k (Create d n) =
+    Creating (first_create (length ws) d n (origin_of c run k) (first_room ws))
+first_program c ws run k (Mkdir d n) =
+    Making (first_mkdir (length ws) d n (origin_of c run k) (first_room ws))
+first_program c ws run k (Unlink d n) = Unlinking (first_unlink (length ws) d n)
+first_program c ws run k (Rmdir d n) =
+    Removing (first_rmdir (length ws) d n (client_layout c d))
+first_program c ws run k (Heal d) = Healing (first_call ws (length ws) d)
 
 -- the first request of a part under locks
 abbrev pub first_lock : Gfid → List ℕ → Ask
@@ -138,13 +173,30 @@ first_look d n ws (Some b) =
     then record { brick = record { 0 = b }; request = OnNames (Look d n) }
     else first_lock d ws
 
+-- the first request of a call that looks a name up, by a client that knows this layout or none
+abbrev pub first_sought : Option (List (Option Range)) → List ℕ → Gfid → List ℕ → Ask
+first_sought (Some ranges) ws d n = first_look d n ws (holder_in ranges n)
+first_sought None ws d n = record { brick = record { 0 = 0 }; request = OnNames (Dirinfo d) }
+
+-- the first request of a heal: the directory's home is asked where it stands, or the root, which
+-- stands nowhere, is locked
+abbrev pub first_heal_ask : Gfid → List ℕ → Ask
+first_heal_ask d ws =
+    if same_gfid d root
+    then record {
+      brick = record { 0 = if length ws == 0 then 0 else anchor d (length ws) };
+      request = Lock (Dir d) Exclusive;
+    }
+    else record { brick = record { 0 = home d }; request = OnNames (Dirinfo d) }
+
 -- the first request of a call, by a client that knows this layout of its directory or none
 abbrev pub first_ask : Option (List (Option Range)) → List ℕ → Call Gfid → Ask
-first_ask (Some ranges) ws (Lookup d n) = first_look d n ws (holder_in ranges n)
-first_ask None ws (Lookup d n) =
-    record { brick = record { 0 = 0 }; request = OnNames (Dirinfo d) }
+first_ask known ws (Lookup d n) = first_sought known ws d n
 first_ask known ws (Create d n) = first_lock d ws
+first_ask known ws (Mkdir d n) = first_lock d ws
 first_ask known ws (Unlink d n) = first_lock d ws
+first_ask known ws (Rmdir d n) = first_sought known ws d n
+first_ask known ws (Heal d) = first_heal_ask d ws
 
 -- what a call claims whose first request is this: the lock, if it asks for one
 abbrev pub claimed_by : (brick : ℕ) → Request → Claim
@@ -154,10 +206,17 @@ claimed_by b q = no_claim
 abbrev pub first_claim : Ask → Claim
 first_claim a = claimed_by a.brick.0 a.request
 
--- how many requests a call sends at most, over so many bricks, by a client that knows the layout or
--- does not
+-- how many requests a lookup of a name sends at most, over so many bricks, by a client that knows the
+-- layout or does not
+abbrev pub most_sought : Bool → ℕ → ℕ
+most_sought true n = n + 7
+most_sought false n = 2 * n + 7
+
+-- and a call; a create and a mkdir may heal their directory
 abbrev pub most_steps : Bool → ℕ → Call Gfid → ℕ
-most_steps true n (Lookup d m) = n + 7
-most_steps false n (Lookup d m) = 2 * n + 7
-most_steps known n (Create d m) = 2 * n + 5
+most_steps known n (Lookup d m) = most_sought known n
+most_steps known n (Create d m) = 3 * n + 10 + heal_cost n
+most_steps known n (Mkdir d m) = 4 * n + 14 + heal_cost n
 most_steps known n (Unlink d m) = 2 * n + 7
+most_steps known n (Rmdir d m) = most_sought known n + (3 * n + 8)
+most_steps known n (Heal d) = 195 * n + 194

@@ -1,8 +1,8 @@
 //! A client: the program of its running call, if there is one, and what it has learned.
 
-ghost use Rattle.std.specs.Prelude.{◌≡◌, ◌≤◌, ◌^◌, ◌<◌, [], true, false, is_none, is_ok, is_some, None, Some, length, IfOk, OnOk, OnErr};
+ghost use Rattle.std.specs.Prelude.{◌≡◌, ◌≤◌, ◌^◌, ◌<◌, [], true, false, is_none, is_ok, is_some, None, Some, length, IfOk, MatchOption, OnOk, OnErr};
 ghost use Rattle.std.specs.Result.{result_err};
-ghost use Rattle.dht_types.specs.Calls.{directory_of, name_of, refusal_at_start};
+ghost use Rattle.dht_types.specs.Calls.{directory_of, name_of, refusal_at_once, refusal_at_start};
 ghost use Rattle.dht_types.specs.Cost.{cost};
 ghost use Rattle.dht_types.specs.declared.identifiers.Gfid.{Gfid as AGfid};
 ghost use Rattle.dht_section.specs.Again.{IsUnanswered};
@@ -13,18 +13,23 @@ ghost use Rattle.dht_section.specs.Location.{located};
 ghost use Rattle.dht_section.specs.Scene.{Scene};
 ghost use Rattle.dht_section.specs.Stages.{CallMoves};
 ghost use Rattle.dht_resolve.specs.Found.{ShowsDir, ShowsFile, dir_at};
-ghost use Rattle.dht_client.specs.Client.{CallLearns, IsLearned, client_cache, client_directory, client_fault, client_is_busy, client_layout, client_learned, client_number, client_stage, first_ask, first_claim, first_program, most_steps};
+ghost use Rattle.dht_client.specs.Client.{CallLearns, IsLearned, client_cache, client_directory, client_fault, client_is_busy, client_layout, client_learned, client_looks_up, client_number, client_stage, first_ask, first_claim, first_program, is_lookup_call, most_steps, subject_of};
 ghost use Rattle.dht_client.specs.ClientLaws.{client_goes_on, client_permitted, client_stable};
 
 use super::program::Program;
 use dht_brick::replies::Reply;
-use dht_fileops::create::{Create, Origin};
+use dht_dirops::mkdir::Mkdir;
+use dht_dirops::rmdir::Rmdir;
+use dht_fileops::create::Create;
 use dht_fileops::unlink::Unlink;
+use dht_heal::call::HealCall;
+use dht_heal::room::HealRoom;
 use dht_resolve::cache::Cache;
 use dht_resolve::lookup::Lookup;
 use dht_section::caller::Caller;
 use dht_section::location::Location;
 use dht_section::machine::{Ask, Finish, Machine, Turn};
+use dht_section::origin::Origin;
 use dht_types::calls::Call;
 use dht_types::errors::Errno;
 use dht_types::identifiers::{CallNo, ClientNo, Gfid};
@@ -52,19 +57,37 @@ pub struct Client {
     pending: Option<Running>,
 }
 
-/// The name of a call, over bricks of these weights; or why the call is refused before its first
+/// What a call is about, in a volume of so many bricks: its directory, and its name if it has one.
+#[derive(Clone, Copy)]
+pub struct Subject {
+    directory: Gfid,
+    name: Option<Name>,
+    bricks: u16,
+}
+
+/// The name of a call, if it has one; or why it is none.
+fn name_of(what: &Call<Gfid>) -> Result<Option<Name>, Errno>
+    ensures refusal { result_err result ≡ refusal_at_once what.now }
+    ensures name { IfOk result (λ name. name ≡ name_of what.now) }
+{
+    match what.name() {
+        Some(bytes) => Ok(Some(Name::new(bytes)?)),
+        None => Ok(None),
+    }
+}
+
+/// What a call is about, over bricks of these weights; or why the call is refused before its first
 /// request.
-fn locate(weights: &Weights, what: &Call<Gfid>) -> Result<Location, Errno>
+fn subject_of(weights: &Weights, what: &Call<Gfid>) -> Result<Subject, Errno>
     requires { length weights.now ≤ 32 }
     ensures refusal { result_err result ≡ refusal_at_start (length weights.now) what.now }
-    ensures location { IfOk result
-        (λ l. l ≡ located (length weights.now) (directory_of what.now) (name_of what.now)) }
+    ensures subject { IfOk result (λ x. x ≡ subject_of (length weights.now) what.now) }
 {
     let bricks = weights.as_slice().len() as u16;
-    let name = Name::new(what.name())?;
+    let name = name_of(what)?;
     let directory = what.directory();
     if directory.home().0 < bricks {
-        Ok(Location {
+        Ok(Subject {
             directory,
             name,
             bricks,
@@ -89,45 +112,89 @@ fn learn(cache: &mut Cache, alloc: Global, directory: Gfid, learned: Option<Layo
 }
 
 impl Client {
-    /// The program of a call, whose name is at this location. It takes the memory that the call will
-    /// need.
+    /// The program of a call that is about this. It takes the memory that the call will need.
     fn program(
         &self,
         alloc: Global,
+        weights: &Weights,
+        subject: Subject,
+        run: u32,
+        call: CallNo,
+        what: &Call<Gfid>,
+    ) -> Result<Program, AllocError>
+        requires { subject ≡ subject_of (length weights.now) what.now }
+        ensures program { IfOk result
+            (λ p. p ≡ first_program self.now weights.now run call what.now) }
+        ensures small { call.0 < 2 ^ 64 }
+    {
+        let Subject {
+            directory,
+            name,
+            bricks,
+        } = subject;
+        match name {
+            Some(name) => {
+                let location = Location {
+                    directory,
+                    name,
+                    bricks,
+                };
+                self.named(alloc, weights, location, run, call, what)
+            }
+            None => Ok(Program::Healing(HealCall::begin(alloc, weights, bricks, directory)?)),
+        }
+    }
+
+    /// The program of a call whose name is at this location.
+    fn named(
+        &self,
+        alloc: Global,
+        weights: &Weights,
         location: Location,
         run: u32,
         call: CallNo,
         what: &Call<Gfid>,
     ) -> Result<Program, AllocError>
-        requires { location
-            ≡ located location.bricks (directory_of what.now) (name_of what.now) }
-        ensures program { IfOk result
-            (λ p. p ≡ first_program self.now location.bricks run call what.now) }
-        ensures small { call.0 < 2 ^ 64 }
+        requires name { name_of what.now ≡ Some location.name }
+        requires location { location
+            ≡ located (length weights.now) (directory_of what.now) location.name }
+        ensures { IfOk result
+            (λ p. p ≡ first_program self.now weights.now run call what.now) }
     {
         let Location {
             directory,
             name,
             bricks,
         } = location;
+        let origin = Origin {
+            run,
+            client: self.number,
+            call,
+        };
         match what {
             Call::Lookup(_, _) => {
                 let lookup = Lookup::begin(alloc, &self.cache, location)?;
                 Ok(Program::LookingUp(lookup))
             }
             Call::Create(_, _) => {
-                let origin = Origin {
-                    run,
-                    client: self.number,
-                    call,
-                };
-                let create = Create::begin(alloc, bricks, directory, name, origin)?;
+                let room = HealRoom::new(alloc, weights)?;
+                let create = Create::begin(alloc, bricks, directory, name, origin, room)?;
                 Ok(Program::Creating(create))
+            }
+            Call::Mkdir(_, _) => {
+                let room = HealRoom::new(alloc, weights)?;
+                let mkdir = Mkdir::begin(alloc, bricks, directory, name, origin, room)?;
+                Ok(Program::Making(mkdir))
             }
             Call::Unlink(_, _) => {
                 let unlink = Unlink::begin(alloc, bricks, directory, name)?;
                 Ok(Program::Unlinking(unlink))
             }
+            Call::Rmdir(_, _) => {
+                let rmdir = Rmdir::begin(alloc, &self.cache, location)?;
+                Ok(Program::Removing(rmdir))
+            }
+            Call::Heal(_) => unreachable!(),
         }
     }
 }
@@ -191,16 +258,19 @@ impl Caller for Client {
             (client_directory self.new ≡ Some (directory_of what.now)) }
         ensures learned { OnOk result (client_learned self.new ≡ None) }
         ensures fault { OnOk result (client_fault self.new ≡ None) }
+        ensures verb { OnOk result (client_looks_up self.new ≡ is_lookup_call what.now) }
     {
-        let location = locate(weights, what)?;
-        match self.program(alloc, location, run, call, what) {
+        let subject = subject_of(weights, what)?;
+        match self.program(alloc, weights, subject, run, call, what) {
             Ok(program) => {
                 let directory = what.directory();
-                self.pending = Some(Running {
+                let running = Running {
                     alloc,
                     directory,
                     program,
-                });
+                };
+                // by a call of `drop`: an assignment is proved through all that a program may hold
+                drop(self.pending.replace(running));
                 Ok(())
             }
             Err(_) => Err(Errno::Enomem),
@@ -226,11 +296,14 @@ impl Caller for Client {
         // memory for a request of it; the first such brick decides
         ensures fault { CallNotesFault (client_fault self.old) (client_fault self.new)
             (client_stage self.old).asks.request reply result }
-        // a file or a directory that one look shows, before any lock, is answered at once
-        ensures found { (f : AGfid) → ShowsFile (client_stage self.old) reply f
-            → result ≡ Some (found_at f at) }
-        ensures folder { (g : AGfid) → ShowsDir (client_stage self.old) reply g
-            → result ≡ Some (dir_at g at) }
+        // a call is a lookup, or is none, up to its end
+        ensures verb { MatchOption result
+            (client_looks_up self.new ≡ client_looks_up self.old) (λ f. Unit {0}) }
+        // a lookup answers at once what one look shows, before any lock: a file or a directory
+        ensures found { client_looks_up self.old ≡ true → (f : AGfid)
+            → ShowsFile (client_stage self.old) reply f → result ≡ Some (found_at f at) }
+        ensures folder { client_looks_up self.old ≡ true → (g : AGfid)
+            → ShowsDir (client_stage self.old) reply g → result ≡ Some (dir_at g at) }
         // a request that has no answer is sent again
         ensures again { IsUnanswered (client_stage self.old) reply → self.new ≡ self.old }
     {
@@ -243,11 +316,12 @@ impl Caller for Client {
                 },
             ) => match program.take(reply, at) {
                 Turn::Go(program) => {
-                    self.pending = Some(Running {
+                    let running = Running {
                         alloc,
                         directory,
                         program,
-                    });
+                    };
+                    drop(self.pending.replace(running));
                     None
                 }
                 Turn::Done(end) => {

@@ -1,9 +1,9 @@
 -- The steps of a create.
-use Rattle.std.proofs.Common.{◌≡◌, ◌<◌, ◌+◌, ◌-◌, ◌^◌, ℕ, Bool, true, false, refl, sym, ◌∙◌, ap, subst, arith, List}
-use Rattle.std.specs.Prelude.{Option, Some, None, MatchOption, is_none, suc, nat_lt, unwrap_or, ◌&&◌, if◌then◌else◌}
+use Rattle.std.proofs.Common.{◌≡◌, ◌<◌, ◌≤◌, ◌+◌, ◌*◌, ◌-◌, ◌^◌, ℕ, Bool, true, false, refl, sym, ◌∙◌, ap, subst, arith, List}
+use Rattle.std.specs.Prelude.{Option, Some, None, MatchOption, is_none, length, suc, nat_lt, ◌&&◌, if◌then◌else◌}
 use Rattle.dht_types.specs.Gfid.{made}
-use Rattle.dht_types.specs.History.{Deeds, Tells, deeds_after, is_carried}
-use Rattle.dht_types.specs.Tree.{Tree, Node, IsFile, Refuse, says, created, answer_of}
+use Rattle.dht_types.specs.History.{Deeds, IsAlone, IsUndisturbed, Tells, deeds_after, is_carried}
+use Rattle.dht_types.specs.Tree.{Tree, Node, IsDir, IsFile, Refuse, says, created, answer_of}
 use Rattle.dht_types.specs.declared.calls.Answer.TheVariants.{Made, Fault}
 use Rattle.dht_types.specs.declared.calls.Call.{Call}
 use Rattle.dht_types.specs.declared.calls.Call.TheVariants.{Create as Called}
@@ -34,7 +34,7 @@ use Rattle.dht_section.proofs.ClaimLaws.{claims_more}
 use Rattle.dht_section.proofs.ClosingSteps.{closes, closing_moves}
 use Rattle.dht_section.proofs.FirstSection.{one_fresh, one_knows, starts}
 use Rattle.dht_section.proofs.KeptLaws.{held_kept, held_left, kept_housed}
-use Rattle.dht_section.proofs.LocationLaws.{has_holder, looked_is}
+use Rattle.dht_section.proofs.LocationLaws.{looked_is}
 use Rattle.dht_section.proofs.PartSteps.{part_served, part_goes_on, part_ends}
 use Rattle.dht_section.proofs.SceneLaws.{carried_sound, carried_step, fault_earned, real_is, row_reply}
 use Rattle.dht_section.proofs.SectionParts.{either_none, fault_errors, gone_directory, gone_earned, never_unanswered, section_notes}
@@ -43,23 +43,28 @@ use Rattle.dht_section.proofs.SlotLaws.{slot_carried}
 use Rattle.dht_section.proofs.SweepSteps.{KeepsLocation, sweep_again, sweep_begins, sweep_kept, sweep_moves, sweep_noted, sweep_same}
 use Rattle.dht_section.proofs.TaughtLaws.{taught_at}
 use Rattle.dht_section.proofs.UnlockingSteps.{scope_moved}
+use Rattle.dht_section.proofs.WholeSteps.{ends_with_holder}
 use Rattle.dht_section.specs.Again.{IsUnanswered}
 use Rattle.dht_section.specs.Closing.{closing_after, closing_of, closing_stage}
 use Rattle.dht_section.specs.Disk.{dir_at, file_at, slot_at}
 use Rattle.dht_section.specs.Ended.{Learns, ended}
 use Rattle.dht_section.specs.Faults.{NotesFault, brick_fault, part_fault}
 use Rattle.dht_section.specs.Invariant.{ByRecord}
-use Rattle.dht_section.specs.Location.{IsHeldAt, entry_at}
+use Rattle.dht_section.specs.Location.{IsHeldAt, entry_at, scope_at}
 use Rattle.dht_section.specs.Looks.{IsNoDir, file_in}
 use Rattle.dht_section.specs.Moves.{Guarantee, deeds_by, step_of}
+use Rattle.dht_section.specs.OriginLaws.{comes_from_moved}
 use Rattle.dht_section.specs.Parts.{EndsByFault, part_ending}
+use Rattle.dht_section.specs.ReleaseLaws.{begins_anew}
 use Rattle.dht_section.specs.Replies.{fault_of}
 use Rattle.dht_section.specs.Scene.{Scene, Sound, MayAnswer, fault_finish}
-use Rattle.dht_section.specs.Section.{IsLooked, KeepsScope, LeavesUnlocks, NamesGone, Outlasts, fault_now, found_shape, held_layout, held_looked, last_lock, opened_ending, opened_fault, section_after, section_fault, section_scope, section_stage, section_taught, turn_layout}
-use Rattle.dht_section.specs.Shapes.{either, node_of}
+use Rattle.dht_section.specs.Section.{IsLooked, KeepsScope, LeavesUnlocks, NamesGone, Outlasts, all_claimed, begun, fault_now, held_layout, held_looked, last_lock, node_seen, opened_ending, opened_fault, section_after, section_fault, section_scope, section_stage, section_taught, turn_layout}
+use Rattle.dht_section.specs.Shapes.{either}
 use Rattle.dht_section.specs.Stages.{Served, GoesOn, EndsIn, Moves, MatchTurn, answered}
 use Rattle.dht_section.specs.Sweep.{IsKept, IsLeft, IsSwept, Sweeps, first_sweep, next_linkto, seen_linktos, sweep_after, sweep_at, sweep_stage}
 use Rattle.dht_section.specs.Views.{core, visible}
+use Rattle.dht_section.specs.Want.{Scoped}
+use Rattle.dht_section.specs.Whole.{EndsWhole, SeesWhole}
 use Rattle.dht_section.specs.declared.closing.Closing.{Closing}
 use Rattle.dht_section.specs.declared.ended.Ended.{Ended}
 use Rattle.dht_section.specs.declared.location.Location.{Location}
@@ -70,18 +75,29 @@ use Rattle.dht_section.specs.declared.machine.Ask.{Ask}
 use Rattle.dht_section.specs.declared.machine.Finish.{Finish}
 use Rattle.dht_section.specs.declared.machine.Turn.{Turn}
 use Rattle.dht_section.specs.declared.machine.Turn.TheVariants.{Go, Done}
+use Rattle.dht_section.specs.declared.origin.Origin.{Origin}
 use Rattle.dht_section.specs.declared.section.Held.{Held}
 use Rattle.dht_section.specs.declared.section.Opened.{Opened}
 use Rattle.dht_section.specs.declared.section.Opened.TheVariants.{Held as Holding, Gone as IsGone, Stopped as IsStopped}
+use Rattle.dht_section.specs.declared.section.Prepared.{Prepared}
 use Rattle.dht_section.specs.declared.section.Section.{Section}
 use Rattle.dht_section.specs.declared.sweep.Sweep.{Sweep}
-use Rattle.dht_fileops.specs.Create.{Clears, ComesOf, IsFree, Makes, MayCreate, MayMake, Secures, StartsCreate, clearing, closed, create_after, create_answered, create_by, create_cleared, create_closed, create_fault, create_held, create_layout, create_secured, create_stage, create_swept, create_taught, create_unless, first_create, held_file, held_locks, new_file}
+use Rattle.dht_heal.proofs.HealBeginning.{claims_on}
+use Rattle.dht_heal.proofs.HealSteps.{room_moved}
+use Rattle.dht_heal.proofs.RestartSteps.{anew_next, begun_variant, has_ready, ready_holds, ready_there, restart_again, restart_keeps, restart_moves, restart_notes, restarts}
+use Rattle.dht_heal.specs.Heal.{IsRoom}
+use Rattle.dht_heal.specs.Restart.{EndsAnew, KeepsScope as KeepsRestart, NotesFault as NotesRestart, SeesAnew, first_dir, first_restart, ready_holder, restart_after, restart_stage, restarted_ending}
+use Rattle.dht_heal.specs.declared.restart.Restart.{Restart}
+use Rattle.dht_heal.specs.declared.restart.Restarted.{Restarted}
+use Rattle.dht_heal.specs.declared.restart.Restarted.TheVariants.{Ready, Stopped}
+use Rattle.dht_heal.specs.declared.room.HealRoom.{HealRoom}
+use Rattle.dht_fileops.specs.Create.{Clears, ComesOf, IsFree, Makes, MayCreate, MayMake, Renews, Secures, StartsCreate, after_section, clearing, closed, create_after, create_answered, create_at, create_by, create_cleared, create_closed, create_fault, create_layout, create_placed, create_restarted, create_secured, create_stage, create_swept, create_taught, create_unless, first_create, held_locks, new_file, renewing}
 use Rattle.dht_fileops.specs.CreateLaws.{file_unused, free_says}
-use Rattle.dht_fileops.specs.Finish.{made_at, refused_at}
+use Rattle.dht_section.specs.Finish.{made_at, refused_at}
 use Rattle.dht_fileops.specs.declared.create.Create.{Create}
-use Rattle.dht_fileops.specs.declared.create.Create.TheVariants.{Securing, Sweeping, Creating, Ending}
+use Rattle.dht_fileops.specs.declared.create.Create.TheVariants.{Securing, Restarting, Sweeping, Creating, Ending}
 use Rattle.dht_fileops.specs.declared.create.NewFile.{NewFile}
-use Rattle.dht_fileops.specs.declared.create.Origin.{Origin}
+use Rattle.dht_fileops.specs.declared.create.Target.{Target}
 
 -- a create went on so, or ended
 abbrev Went : Create → Reply → Scene → Turn Create Ended → Type 0
@@ -92,14 +108,8 @@ Went m r t turn = MatchTurn turn (λ n. GoesOn (create_stage m) (create_stage n)
 same_made : (n k : ℕ) (c d : ClientNo) (x y : CallNo) (h : ℕ) → k ≡ n → d ≡ c → y ≡ x → made n c x h ≡ made k d y h
 same_made n k c d x y h e f g = ap (λ (i : ℕ). made i c x h) (sym e) ∙ (ap (λ (i : ClientNo). made k i x h) (sym f) ∙ ap (λ (i : CallNo). made k d i h) (sym g))
 
-comes_moved : (o : Origin) (l : Location) (s t : Scene) (a : Ask) (r : Reply) → ComesOf o l s → Guarantee s a r t → ComesOf o l t
-comes_moved o l s t a r h m = record {
-  call = m.mine.call ∙ h.call;
-  run = h.run ∙ sym m.run;
-  client = h.client ∙ sym m.who;
-  number = h.number ∙ sym m.mine.number;
-  small = h.small;
-}
+comes_moved : (x : Target) (s t : Scene) (a : Ask) (r : Reply) → ComesOf x s → Guarantee s a r t → ComesOf x t
+comes_moved x s t a r h m = record { call = m.mine.call ∙ h.call; origin_is = comes_from_moved x.origin s t a r h.origin_is m }
 
 makes_moved : (x : NewFile) (l : Location) (s t : Scene) (a : Ask) (r : Reply) → Makes x l s → Guarantee s a r t → Makes x l t
 makes_moved x l s t a r h m = record {
@@ -110,23 +120,23 @@ makes_moved x l s t a r h m = record {
 }
 
 -- the file of the call's origin is the call's own
-makes_own : (o : Origin) (b : ℕ) (l : Location) (s : Scene) → b < s.disk.count → ComesOf o l s → Makes (new_file o b) l s
-makes_own o b l s there h = record {
-  call = h.call;
-  there = there;
-  file = same_made o.run s.history.run o.client s.who o.call s.mine.number b (sym h.run) (sym h.client) (sym h.number);
-  small = subst (λ (i : CallNo). i.0 < 2 ^ 64) h.number h.small;
-}
+makes_own : (x : Target) (b : ℕ) (s : Scene) → b < s.disk.count → ComesOf x s → Makes (new_file x.origin b) x.location s
+makes_own x b s there h =
+    let o = h.origin_is in
+    record {
+      call = h.call;
+      there = there;
+      file = same_made x.origin.run s.history.run x.origin.client s.who x.origin.call s.mine.number b (sym o.run) (sym o.client) (sym o.number);
+      small = subst (λ (i : CallNo). i.0 < 2 ^ 64) o.number o.small;
+    }
 
 -- under both locks the file may go to the name's holder
-may_make : (o : Origin) (l : Location) (h : Held) (s : Scene) → Sound s → ComesOf o l s → IsHeldAt l h s → MayMake (held_file o l h) l h s
-may_make o l h s sound comes k =
-    let w = has_holder l h s sound k in
-    subst (λ (y : NewFile). MayMake y l h s) (sym (ap (λ i. new_file o (unwrap_or i 0)) w.holds)) (record {
-      makes = makes_own o w.brick l s w.there comes;
-      kept = held_kept l h s k;
-      holder = w.holds;
-    })
+may_make : (x : Target) (h : Held) (b : ℕ) (s : Scene) → Sound s → ComesOf x s → IsHeldAt x.location h s → ready_holder x.location h ≡ Some b → MayMake (new_file x.origin b) x.location h s
+may_make x h b s sound comes k e = record {
+  makes = makes_own x b s (ready_there x.location h b s sound k e) comes;
+  kept = held_kept x.location h s k;
+  holder = ready_holds x.location h b e;
+}
 
 -- ---- the section
 
@@ -134,58 +144,150 @@ may_make o l h s sound comes k =
 says_exists : (p : Tree) (d : Gfid) (n : List ℕ) (node : Node) (g : Gfid) → p.dirs d ≡ true → p.names (d, n) ≡ Some node → answer_of (says p (Called d n) g) ≡ Some (Fault Eexist)
 says_exists p d n node g e k = ap (λ b. answer_of (if b then created d n g (p.names (d, n)) else Refuse Estale)) e ∙ ap (λ (o : Option Node). answer_of (created d n g o)) k
 
-exists_earned : (bricks : ℕ) (o : Origin) (l : Location) (x : Looked) (node : Node) (s : Scene) → node_of (found_shape (file_in x.sight.what)) ≡ Some node → ComesOf o l s → s.mine.deeds ≡ None → IsLooked bricks (entry_at l) x s → MayAnswer (refused_at Eexist x.at) s
-exists_earned bricks o l x node s e comes fresh k = record {
-  point = x.at;
+exists_earned : (bricks : ℕ) (x : Target) (y : Looked) (node : Node) (s : Scene) → node_seen y.sight.what ≡ Some node → ComesOf x s → s.mine.deeds ≡ None → IsLooked bricks (entry_at x.location) y s → MayAnswer (refused_at Eexist y.at) s
+exists_earned bricks x y node s e comes fresh k = record {
+  point = y.at;
   printed = refl;
   after = k.saw.after;
   before = k.saw.before;
-  tells = subst (λ (d : Option Deeds). Tells s.history s.mine.call d x.at (Fault Eexist)) (sym fresh)
-      (λ (g : Gfid). ap (λ (c : Call Gfid). answer_of (says (s.history.past x.at) c g)) comes.call
-      ∙ says_exists (s.history.past x.at) l.directory l.name node g k.saw.directory (k.saw.node ∙ e));
+  tells = subst (λ (d : Option Deeds). Tells s.history s.mine.call d y.at (Fault Eexist)) (sym fresh)
+      (λ (g : Gfid). ap (λ (c : Call Gfid). answer_of (says (s.history.past y.at) c g)) comes.call
+      ∙ says_exists (s.history.past y.at) x.location.directory x.location.name node g k.saw.directory (k.saw.node ∙ e));
 }
 
--- the locks are given back, and something has the name
-exists_step : (o : Origin) (l : Location) (m : Section) (h : Held) (node : Node) (r : Reply) (t : Scene) → node_of (found_shape (file_in (held_looked h (entry_at l)).sight.what)) ≡ Some node → ComesOf o l t → IsHeldAt l h t → Outlasts m (Holding h) → EndsIn (section_stage m) (opened_ending (Holding h)) t → GoesOn (create_stage (Securing o l m)) (create_stage (closed l h (refused_at Eexist (held_looked h (entry_at l)).at))) r t
-exists_step o l m h node r t e comes held left ends =
-    let x = held_looked h (entry_at l) in
-    let earned = exists_earned h.scope.bricks o l x node t e comes held.held.fresh.deeds (looked_is l h t held) in
-    part_ends (section_stage m) (create_stage (closed l h (refused_at Eexist x.at))) (opened_ending (Holding h)) (l.bricks + 1) (λ s. Secures o l m s) r t ends refl (omega arith) (closes h (refused_at Eexist x.at) t ends.earned earned).knows
+-- after any section a file may be made
+after_most : (learned : Option (List (Option Range))) (n : ℕ) → n + 1 ≤ after_section learned n
+after_most None n = omega arith
+after_most (Some layout) n = omega arith
 
--- or nothing has it, and linktos of it are left, or none is
-clearing_step : (o : Origin) (l : Location) (m : Section) (h : Held) (r : Reply) (t : Scene) (b : Option BrickNo) → MatchOption (sweep_at l (seen_linktos l h) b) (IsSwept l None t) (λ n. Sweeps None n t) → MayMake (held_file o l h) l h t → Outlasts m (Holding h) → EndsIn (section_stage m) (opened_ending (Holding h)) t → GoesOn (create_stage (Securing o l m)) (create_stage (clearing (sweep_at l (seen_linktos l h) b) (held_file o l h) l h)) r t
-clearing_step o l m h r t None w may left ends = part_ends (section_stage m) (create_stage (Creating (held_file o l h) l h)) (opened_ending (Holding h)) (l.bricks + 1) (λ s. Secures o l m s) r t ends refl (omega arith) (record { may = may; swept = w })
-clearing_step o l m h r t (Some b) w may left ends = part_ends (section_stage m) (create_stage (clearing (sweep_at l (seen_linktos l h) (Some b)) (held_file o l h) l h)) (opened_ending (Holding h)) (l.bricks + 1) (λ s. Secures o l m s) r t ends refl (omega arith) (w, record { name = refl; may = may })
+-- a section of the name that is held, and what is known beside it
+record Has (x : Target) (learned : Option (List (Option Range))) (room : HealRoom) (m : Section) (h : Held) (t : Scene) : Type 0 where
+  sound : Sound t
+  comes : ComesOf x t
+  held : IsHeldAt x.location h t
+  memory : IsRoom room t
+  anew : EndsAnew learned x.location.directory (Holding h) t
+  left : Outlasts m (Holding h)
+  ends : EndsIn (section_stage m) (opened_ending (Holding h)) t
 
-absent_step : (o : Origin) (l : Location) (m : Section) (h : Held) (r : Reply) (t : Scene) → (held_looked h (entry_at l)).sight.what ≡ what.Absent → Sound t → ComesOf o l t → IsHeldAt l h t → Outlasts m (Holding h) → EndsIn (section_stage m) (opened_ending (Holding h)) t → GoesOn (create_stage (Securing o l m)) (create_stage (create_by what.Absent o l h)) r t
-absent_step o l m h r t e sound comes held left ends =
-    let w : IsLeft l None (seen_linktos l h) 0 t = subst (λ (x : What). IsLeft l (file_in x) (seen_linktos l h) 0 t) e (held_left l h t sound held) in
-    clearing_step o l m h r t (next_linkto l.bricks (seen_linktos l h) 0) (sweep_begins l h None t w) (may_make o l h t sound comes held) left ends
+module _ (x : Target) (learned : Option (List (Option Range))) (room : HealRoom) (m : Section) (h : Held) (r : Reply) (t : Scene) (k : Has x learned room m h t) where
+  goes_to : (n : Create) → (create_stage n).claims ≡ all_claimed h.scope → (create_stage n).knows t → (create_stage n).variant ≤ suc (last_lock h.scope) + (x.location.bricks + 1) → GoesOn (create_stage (Securing x learned room m)) (create_stage n) r t
+  goes_to n claims knows few =
+      let most = after_most learned x.location.bricks in
+      let left = k.left in
+      part_ends (section_stage m) (create_stage n) (opened_ending (Holding h)) (after_section learned x.location.bricks) (λ s. Secures x learned room m s) r t k.ends claims (omega arith) knows
 
-held_by : (x : What) (o : Origin) (l : Location) (m : Section) (h : Held) (r : Reply) (t : Scene) → (held_looked h (entry_at l)).sight.what ≡ x → IsNoDir x → Sound t → ComesOf o l t → IsHeldAt l h t → Outlasts m (Holding h) → EndsIn (section_stage m) (opened_ending (Holding h)) t → GoesOn (create_stage (Securing o l m)) (create_stage (create_by x o l h)) r t
-held_by what.Absent o l m h r t e plain sound comes held left ends = absent_step o l m h r t e sound comes held left ends
-held_by (what.Dir g) o l m h r t e plain sound comes held left ends = absurd plain
-held_by (what.File f b links) o l m h r t e plain sound comes held left ends = exists_step o l m h (IsFile f) r t (ap (λ (y : What). node_of (found_shape (file_in y))) e) comes held left ends
+  -- the locks are given back, and something has the name
+  exists_step : (node : Node) → node_seen (held_looked h (entry_at x.location)).sight.what ≡ Some node → GoesOn (create_stage (Securing x learned room m)) (create_stage (closed x.location h (refused_at Eexist (held_looked h (entry_at x.location)).at))) r t
+  exists_step node e =
+      let y = held_looked h (entry_at x.location) in
+      let earned = exists_earned h.scope.bricks x y node t e k.comes k.held.held.fresh.deeds (looked_is x.location h t k.held) in
+      goes_to (closed x.location h (refused_at Eexist y.at)) refl (closes h (refused_at Eexist y.at) t k.ends.earned earned).knows (omega arith)
 
-held_step : (o : Origin) (l : Location) (m : Section) (h : Held) (r : Reply) (at : ℕ) (s t : Scene) → h.scope ≡ section_scope m → Outlasts m (Holding h) → EndsIn (section_stage m) (opened_ending (Holding h)) t → Served (create_stage (Securing o l m)) r at s t → GoesOn (create_stage (Securing o l m)) (create_stage (create_held o l h)) r t
-held_step o l m h r at s t scope left ends v =
-    let k = v.is_at.knows.1 in
-    let held : IsHeldAt l h t = record { held = ends.earned; scope = scope ∙ k.scope } in
-    held_by (held_looked h (entry_at l)).sight.what o l m h r t refl (looked_is l h t held).file v.after (comes_moved o l s t _ r k.comes v.moved) held left ends
+  -- or nothing has it, and linktos of it are left, or none is
+  clearing_step : (b : ℕ) (o : Option BrickNo) → MatchOption (sweep_at x.location (seen_linktos x.location h) o) (IsSwept x.location None t) (λ n. Sweeps None n t) → MayMake (new_file x.origin b) x.location h t → GoesOn (create_stage (Securing x learned room m)) (create_stage (clearing (sweep_at x.location (seen_linktos x.location h) o) (new_file x.origin b) x.location h)) r t
+  clearing_step b None w may = goes_to (Creating (new_file x.origin b) x.location h) refl (record { may = may; swept = w }) (omega arith)
+  clearing_step b (Some c) w may = goes_to (clearing (sweep_at x.location (seen_linktos x.location h) (Some c)) (new_file x.origin b) x.location h) refl (w, record { name = refl; may = may }) (omega arith)
+
+  placed_step : (b : ℕ) → (held_looked h (entry_at x.location)).sight.what ≡ what.Absent → ready_holder x.location h ≡ Some b → GoesOn (create_stage (Securing x learned room m)) (create_stage (create_placed x h b)) r t
+  placed_step b e holds =
+      let plain : IsNoDir (held_looked h (entry_at x.location)).sight.what = subst IsNoDir (sym e) tt in
+      let w : IsLeft x.location None (seen_linktos x.location h) 0 t = subst (λ (y : What). IsLeft x.location (file_in y) (seen_linktos x.location h) 0 t) e (held_left x.location h t k.sound k.held plain) in
+      clearing_step b (next_linkto x.location.bricks (seen_linktos x.location h) 0) (sweep_begins x.location h None t w) (may_make x h b t k.sound k.comes k.held holds)
+
+  -- no heal is needed after one, while the call is alone
+  needs_none : (layout : List (Option Range)) → learned ≡ Some layout → ready_holder x.location h ≡ None → IsAlone t.history t.mine → ⊥
+  needs_none layout e none now =
+      let ends : EndsWhole x.location.directory (Holding h) t = subst (λ (o : Option (List (Option Range))). EndsAnew o x.location.directory (Holding h) t) e k.anew in
+      let has = ends_with_holder x.location h t k.sound k.held ends now in
+      let z : Some has.brick ≡ None = sym (has_ready x.location h t has) ∙ none in
+      cc
+
+  -- or no brick can hold it: the directory is healed
+  renewing_nearer : (o : Option (List (Option Range))) → learned ≡ o → ready_holder x.location h ≡ None → IsUndisturbed t.history t.mine → (restart_stage (first_restart h room)).variant + (2 * x.location.bricks + 6) < (section_stage m).variant + after_section o x.location.bricks
+  renewing_nearer None e none u =
+      let begins = restarts h room t k.held.held k.memory (subst (λ (w : Scoped). 0 < length w.names) (sym k.held.scope) (omega arith)) in
+      let variant = begins.variant in
+      let left = k.left in
+      let some = k.held.held.order.some in
+      let bricks = ap (λ (w : Scoped). w.bricks) k.held.scope in
+      omega arith
+  renewing_nearer (Some layout) e none u = absurd (needs_none layout e none (record { first = u.first; last = u.last }))
+
+  renewing_step : ready_holder x.location h ≡ None → GoesOn (create_stage (Securing x learned room m)) (create_stage (renewing x room h)) r t
+  renewing_step none =
+      let begins = restarts h room t k.held.held k.memory (subst (λ (w : Scoped). 0 < length w.names) (sym k.held.scope) (omega arith)) in
+      record {
+        claims = k.ends.claims;
+        knows = (begins.knows, record { comes = k.comes; scope = k.held.scope });
+        nearer = λ u. (λ w. renewing_nearer learned refl none u, let n = renewing_nearer learned refl none u in omega arith);
+      }
+
+  absent_step : (o : Option ℕ) → (held_looked h (entry_at x.location)).sight.what ≡ what.Absent → ready_holder x.location h ≡ o → GoesOn (create_stage (Securing x learned room m)) (create_stage (create_at o x room h)) r t
+  absent_step None e q = renewing_step q
+  absent_step (Some b) e q = placed_step b e q
+
+  held_by : (y : What) → (held_looked h (entry_at x.location)).sight.what ≡ y → GoesOn (create_stage (Securing x learned room m)) (create_stage (create_by y x room h)) r t
+  held_by what.Absent e = absent_step (ready_holder x.location h) e refl
+  held_by (what.Dir g) e = exists_step (IsDir g) (ap node_seen e)
+  held_by (what.File f b links) e = exists_step (IsFile f) (ap node_seen e)
 
 refuses_create : (l : Location) (p : Tree) (g : Gfid) → p.dirs l.directory ≡ false → answer_of (says p (Called l.directory l.name) g) ≡ Some (Fault Estale)
 refuses_create l p g e = ap (λ b. answer_of (if b then created l.directory l.name g (p.names (entry_at l)) else Refuse Estale)) e
 
-secured_step : (o : Origin) (l : Location) (m : Section) (turn : Turn Section Opened) (r : Reply) (at : ℕ) (s t : Scene) → MatchTurn turn (λ n. GoesOn (section_stage m) (section_stage n) r t) (λ d. EndsIn (section_stage m) (opened_ending d) t) → KeepsScope m turn → NamesGone m turn → LeavesUnlocks m turn → Served (create_stage (Securing o l m)) r at s t → Went (Securing o l m) r t (create_secured o l turn)
-secured_step o l m (Go n) r at s t went same gone left v = part_goes_on (section_stage m) (section_stage n) (l.bricks + 1) (λ s. Secures o l m s) (λ s. Secures o l n s) r t went (record { comes = comes_moved o l s t _ r v.is_at.knows.1.comes v.moved; scope = same ∙ v.is_at.knows.1.scope })
-secured_step o l m (Done (Holding h)) r at s t went same gone left v = held_step o l m h r at s t same left went v
-secured_step o l m (Done (IsGone g line)) r at s t went same gone left v =
+secured_step : (x : Target) (learned : Option (List (Option Range))) (room : HealRoom) (m : Section) (turn : Turn Section Opened) (r : Reply) (at : ℕ) (s t : Scene) → MatchTurn turn (λ n. GoesOn (section_stage m) (section_stage n) r t) (λ d. EndsIn (section_stage m) (opened_ending d) t) → MatchTurn turn (λ n. SeesAnew learned x.location.directory n t) (λ d. EndsAnew learned x.location.directory d t) → KeepsScope m turn → NamesGone m turn → LeavesUnlocks m turn → Served (create_stage (Securing x learned room m)) r at s t → Went (Securing x learned room m) r t (create_secured x learned room turn)
+secured_step x learned room m (Go n) r at s t went anew same gone left v =
+    let k = v.is_at.knows.1 in
+    part_goes_on (section_stage m) (section_stage n) (after_section learned x.location.bricks) (λ s. Secures x learned room m s) (λ s. Secures x learned room n s) r t went
+    (record { comes = comes_moved x s t _ r k.comes v.moved; scope = same ∙ k.scope; memory = room_moved room s t _ r k.memory v.moved; whole = anew })
+secured_step x learned room m (Done (Holding h)) r at s t went anew same gone left v =
+    let k = v.is_at.knows.1 in
+    held_by x learned room m h r t (record {
+      sound = v.after;
+      comes = comes_moved x s t _ r k.comes v.moved;
+      held = record { held = went.earned; scope = same ∙ k.scope };
+      memory = room_moved room s t _ r k.memory v.moved;
+      anew = anew;
+      left = left;
+      ends = went;
+    }) (held_looked h (entry_at x.location)).sight.what refl
+secured_step x learned room m (Done (IsGone g line)) r at s t went anew same gone left v =
     let k = v.is_at.knows in
+    let l = x.location in
     record {
       claims = went.claims;
       earned = gone_earned l.directory (Called l.directory l.name) g line t (refuses_create l) (v.moved.mine.call ∙ k.1.comes.call) (gone_directory l (section_scope m) g k.1.scope gone) went.earned;
     }
-secured_step o l m (Done (IsStopped e)) r at s t went same gone left v = record { claims = went.claims; earned = went.earned }
+secured_step x learned room m (Done (IsStopped e)) r at s t went anew same gone left v = record { claims = went.claims; earned = went.earned }
+
+-- ---- the heal
+
+-- the section begins anew
+anew_step : (x : Target) (layout : List (Option Range)) (m : Restart) (p : Prepared) (room : HealRoom) (r : Reply) (t : Scene) → ComesOf x t → p.scope ≡ scope_at x.location → EndsIn (restart_stage m) (restarted_ending (Ready p room)) t → GoesOn (create_stage (Restarting x layout m)) (create_stage (Securing x (Some layout) room (begun p))) r t
+anew_step x layout m p room r t comes same ends =
+    let variant = begun_variant x.location p same in
+    record {
+      claims = claims_on t _ (section_stage (begun p)).claims.locks ends.claims;
+      knows = (
+        begins_anew p t ends.earned.begins,
+        record {
+          comes = comes;
+          scope = same;
+          memory = ends.earned.memory;
+          whole = subst (λ (g : Gfid). SeesWhole g (begun p) t) (ap first_dir same) ends.earned.whole;
+        },
+      );
+      nearer = λ u. (λ w. omega arith, omega arith);
+    }
+
+restarted_step : (x : Target) (layout : List (Option Range)) (m : Restart) (turn : Turn Restart Restarted) (r : Reply) (at : ℕ) (s t : Scene) → MatchTurn turn (λ n. GoesOn (restart_stage m) (restart_stage n) r t) (λ d. EndsIn (restart_stage m) (restarted_ending d) t) → KeepsRestart m turn → Served (create_stage (Restarting x layout m)) r at s t → Went (Restarting x layout m) r t (create_restarted x layout turn)
+restarted_step x layout m (Go n) r at s t went same v =
+    let k = v.is_at.knows.1 in
+    part_goes_on (restart_stage m) (restart_stage n) (2 * x.location.bricks + 6) (λ s. Renews x m s) (λ s. Renews x n s) r t went (record { comes = comes_moved x s t _ r k.comes v.moved; scope = same ∙ k.scope })
+restarted_step x layout m (Done (Ready p room)) r at s t went same v =
+    let k = v.is_at.knows.1 in
+    anew_step x layout m p room r t (comes_moved x s t _ r k.comes v.moved) (same ∙ k.scope) went
+restarted_step x layout m (Done (Stopped e)) r at s t went same v = record { claims = went.claims; earned = went.earned }
 
 -- ---- the sweep
 
@@ -236,7 +338,7 @@ made_earned x l h r at s t e v =
     let begun = v.after.begun in
     let line = v.line in
     let step : TreeStep = AddFile l.directory l.name x.file in
-    let done : step_of (OnNames (Make l.directory l.name x.file)) m.real ≡ Some step = ap (λ (y : Reply). step_of (OnNames (Make l.directory l.name x.file)) y) (real_is s t _ r m (carried_sound r e)) ∙ carried_step (Make l.directory l.name x.file) r e in
+    let done : step_of x.holder.0 (OnNames (Make l.directory l.name x.file)) m.real ≡ Some step = ap (λ (y : Reply). step_of x.holder.0 (OnNames (Make l.directory l.name x.file)) y) (real_is s t _ r m (carried_sound r e)) ∙ carried_step x.holder.0 (Make l.directory l.name x.file) r e in
     let deeds : t.mine.deeds ≡ Some (deeds_after s.history.tree t.history.size s.mine.call None step) =
     m.mine.deeds_are
     ∙ (ap (λ (o : Option TreeStep). deeds_by s t.history.size o) done
@@ -297,9 +399,12 @@ closing_step c learned (Done f) r t went = went
 -- ---- all of it
 
 pub create_moves : (m : Create) (r : Reply) (at : ℕ) → Moves create_stage ended m r at (create_after m r at)
-create_moves (Securing o l m) r at s t v =
-    let part = part_served (section_stage m) (l.bricks + 1) (λ s. Secures o l m s) r at s t v in
-    secured_step o l m (section_after m r at) r at s t (section_moves m r at s t part) (keeps_scope m r at) (names_gone m r at s v.is_at.knows.0) (leaves_unlocks m r at s v.is_at.knows.0) v
+create_moves (Securing x learned room m) r at s t v =
+    let part = part_served (section_stage m) (after_section learned x.location.bricks) (λ s. Secures x learned room m s) r at s t v in
+    secured_step x learned room m (section_after m r at) r at s t (section_moves m r at s t part) (anew_next learned x.location.directory m r at s t part v.is_at.knows.1.whole) (keeps_scope m r at) (names_gone m r at s v.is_at.knows.0) (leaves_unlocks m r at s v.is_at.knows.0) v
+create_moves (Restarting x layout m) r at s t v =
+    let part = part_served (restart_stage m) (2 * x.location.bricks + 6) (λ s. Renews x m s) r at s t v in
+    restarted_step x layout m (restart_after m r at) r at s t (restart_moves m r at s t part) (restart_keeps m r at) v
 create_moves (Sweeping m x l h) r at s t v =
     let part = part_served (sweep_stage (held_locks h) None m) (suc (last_lock h.scope) + 1) (λ s. Clears m x l h s) r at s t v in
     cleared_step m x l h (sweep_after m r) r at s t (sweep_moves (held_locks h) None m r at s t part) (sweep_noted m r) (sweep_same m r) v
@@ -312,16 +417,25 @@ clearing_learned : (o : Option Sweep) (x : NewFile) (l : Location) (h : Held) �
 clearing_learned None x l h = refl
 clearing_learned (Some m) x l h = refl
 
-held_learned : (x : What) (o : Origin) (l : Location) (h : Held) → create_layout (create_by x o l h) ≡ Some (held_layout h (entry_at l))
-held_learned what.Absent o l h = clearing_learned (first_sweep l h) (held_file o l h) l h
-held_learned (what.Dir g) o l h = refl
-held_learned (what.File f b n) o l h = refl
+at_learned : (o : Option ℕ) (x : Target) (room : HealRoom) (h : Held) → create_layout (create_at o x room h) ≡ Some (held_layout h (entry_at x.location))
+at_learned None x room h = refl
+at_learned (Some b) x room h = clearing_learned (first_sweep x.location h) (new_file x.origin b) x.location h
 
-secured_learns : (o : Origin) (l : Location) (m : Section) (turn : Turn Section Opened) (r : Reply) → turn_layout (entry_at l) turn ≡ section_taught (entry_at l) m r → Learns create_layout create_taught (Securing o l m) r (create_secured o l turn)
-secured_learns o l m (Go n) r e = ap (λ (o : Option (List (Option Range))). either o None) e
-secured_learns o l m (Done (Holding h)) r e = held_learned (held_looked h (entry_at l)).sight.what o l h ∙ ap (λ (o : Option (List (Option Range))). either o None) e
-secured_learns o l m (Done (IsGone g at)) r e = refl
-secured_learns o l m (Done (IsStopped x)) r e = refl
+held_learned : (y : What) (x : Target) (room : HealRoom) (h : Held) → create_layout (create_by y x room h) ≡ Some (held_layout h (entry_at x.location))
+held_learned what.Absent x room h = at_learned (ready_holder x.location h) x room h
+held_learned (what.Dir g) x room h = refl
+held_learned (what.File f b n) x room h = refl
+
+secured_learns : (x : Target) (learned : Option (List (Option Range))) (room : HealRoom) (m : Section) (turn : Turn Section Opened) (r : Reply) → turn_layout (entry_at x.location) turn ≡ section_taught (entry_at x.location) m r → Learns create_layout create_taught (Securing x learned room m) r (create_secured x learned room turn)
+secured_learns x learned room m (Go n) r e = ap (λ (o : Option (List (Option Range))). either o learned) e
+secured_learns x learned room m (Done (Holding h)) r e = held_learned (held_looked h (entry_at x.location)).sight.what x room h ∙ ap (λ (o : Option (List (Option Range))). either o learned) e
+secured_learns x learned room m (Done (IsGone g at)) r e = refl
+secured_learns x learned room m (Done (IsStopped y)) r e = refl
+
+restarted_learns : (x : Target) (layout : List (Option Range)) (m : Restart) (turn : Turn Restart Restarted) (r : Reply) → Learns create_layout create_taught (Restarting x layout m) r (create_restarted x layout turn)
+restarted_learns x layout m (Go n) r = refl
+restarted_learns x layout m (Done (Ready p room)) r = refl
+restarted_learns x layout m (Done (Stopped e)) r = refl
 
 swept_learned : (x : NewFile) (l : Location) (h : Held) (fault : Option Errno) → create_layout (create_swept x l h fault) ≡ Some (held_layout h (entry_at l))
 swept_learned x l h None = refl
@@ -344,7 +458,8 @@ closed_learns c learned (Go n) r = refl
 closed_learns c learned (Done f) r = refl
 
 pub create_learns : (m : Create) (r : Reply) (at : ℕ) → Learns create_layout create_taught m r (create_after m r at)
-create_learns (Securing o l m) r at = secured_learns o l m (section_after m r at) r (taught_at (entry_at l) m r at 0)
+create_learns (Securing x learned room m) r at = secured_learns x learned room m (section_after m r at) r (taught_at (entry_at x.location) m r at 0)
+create_learns (Restarting x layout m) r at = restarted_learns x layout m (restart_after m r at) r
 create_learns (Sweeping m x l h) r at = cleared_learns m x l h (sweep_after m r) r
 create_learns (Creating x l h) r at = unless_learns x l h r at (fault_of r)
 create_learns (Ending c learned) r at = closed_learns c learned (closing_after c) r
@@ -358,16 +473,25 @@ clearing_sound : (o : Option Sweep) (x : NewFile) (l : Location) (h : Held) → 
 clearing_sound None x l h = refl
 clearing_sound (Some m) x l h = refl
 
-held_sound : (x : What) (o : Origin) (l : Location) (h : Held) → create_fault (create_by x o l h) ≡ None
-held_sound what.Absent o l h = clearing_sound (first_sweep l h) (held_file o l h) l h
-held_sound (what.Dir g) o l h = refl
-held_sound (what.File f b n) o l h = refl
+at_sound : (o : Option ℕ) (x : Target) (room : HealRoom) (h : Held) → create_fault (create_at o x room h) ≡ None
+at_sound None x room h = refl
+at_sound (Some b) x room h = clearing_sound (first_sweep x.location h) (new_file x.origin b) x.location h
 
-secured_notes : (o : Origin) (l : Location) (m : Section) (turn : Turn Section Opened) (r : Reply) → MatchTurn turn (λ n. section_fault n ≡ fault_now m r) (λ d. opened_fault d ≡ fault_now m r) → Notes (Securing o l m) r (create_secured o l turn)
-secured_notes o l m (Go n) r e = section_notes m r (section_fault n) e
-secured_notes o l m (Done (Holding h)) r e = held_sound (held_looked h (entry_at l)).sight.what o l h ∙ section_notes m r None e
-secured_notes o l m (Done (IsGone g at)) r e = section_notes m r None e
-secured_notes o l m (Done (IsStopped x)) r e = section_notes m r (Some x) e
+held_sound : (y : What) (x : Target) (room : HealRoom) (h : Held) → create_fault (create_by y x room h) ≡ None
+held_sound what.Absent x room h = at_sound (ready_holder x.location h) x room h
+held_sound (what.Dir g) x room h = refl
+held_sound (what.File f b n) x room h = refl
+
+secured_notes : (x : Target) (learned : Option (List (Option Range))) (room : HealRoom) (m : Section) (turn : Turn Section Opened) (r : Reply) → MatchTurn turn (λ n. section_fault n ≡ fault_now m r) (λ d. opened_fault d ≡ fault_now m r) → Notes (Securing x learned room m) r (create_secured x learned room turn)
+secured_notes x learned room m (Go n) r e = section_notes m r (section_fault n) e
+secured_notes x learned room m (Done (Holding h)) r e = held_sound (held_looked h (entry_at x.location)).sight.what x room h ∙ section_notes m r None e
+secured_notes x learned room m (Done (IsGone g at)) r e = section_notes m r None e
+secured_notes x learned room m (Done (IsStopped y)) r e = section_notes m r (Some y) e
+
+restarted_notes : (x : Target) (layout : List (Option Range)) (m : Restart) (turn : Turn Restart Restarted) (r : Reply) → NotesRestart m r turn → Notes (Restarting x layout m) r (create_restarted x layout turn)
+restarted_notes x layout m (Go n) r e = e
+restarted_notes x layout m (Done (Ready p room)) r e = e
+restarted_notes x layout m (Done (Stopped y)) r e = e
 
 swept_fault : (x : NewFile) (l : Location) (h : Held) (fault : Option Errno) → create_fault (create_swept x l h fault) ≡ part_fault fault
 swept_fault x l h None = refl
@@ -390,7 +514,8 @@ closed_notes c learned r true = either_none (brick_fault c.finish.answer)
 closed_notes c learned r false = either_none (brick_fault c.finish.answer)
 
 pub create_notes : (m : Create) (r : Reply) (at : ℕ) → Notes m r (create_after m r at)
-create_notes (Securing o l m) r at = secured_notes o l m (section_after m r at) r (notes_fault m r at)
+create_notes (Securing x learned room m) r at = secured_notes x learned room m (section_after m r at) r (notes_fault m r at)
+create_notes (Restarting x layout m) r at = restarted_notes x layout m (restart_after m r at) r (restart_notes m r at)
 create_notes (Sweeping m x l h) r at = cleared_notes m x l h (sweep_after m r) r (sweep_noted m r)
 create_notes (Creating x l h) r at = unless_notes x l h r at (fault_of r) refl
 create_notes (Ending c learned) r at = closed_notes c learned r (nat_lt 0 c.place)
@@ -401,18 +526,22 @@ unless_again : (x : NewFile) (l : Location) (h : Held) (r : Reply) (at : ℕ) �
 unless_again x l h r at z e = ap (λ (o : Option Errno). create_unless o x l h r at) z ∙ ap (λ (v : Bool). if v then closed l h (made_at x.file at) else Creating x l h) e
 
 pub create_again : (m : Create) (r : Reply) (at : ℕ) → IsUnanswered (create_stage m) r → create_after m r at ≡ Go m
-create_again (Securing o l m) r at h = absurd (never_unanswered m r h)
+create_again (Securing x learned room m) r at h = absurd (never_unanswered m r h)
+create_again (Restarting x layout m) r at h = ap (create_restarted x layout) (restart_again m r at h)
 create_again (Sweeping m x l k) r at h = ap (create_cleared x l k) (sweep_again (held_locks k) None m r h)
 create_again (Creating x l k) r at h = ap Go (unless_again x l k r at h.0 h.1)
 create_again (Ending c learned) r at h = absurd h.1
 
 -- ---- its beginning
 
-pub first_knows : (bricks : ℕ) (d : Gfid) (n : List ℕ) (o : Origin) (s : Scene) → MayCreate bricks d n o s → (create_stage (first_create bricks d n o)).knows s
-first_knows bricks d n o s h = (one_knows bricks d Shared n s (one_fresh bricks d Shared n s h.count h.home h.deeds), record { comes = h.comes; scope = refl })
+pub first_knows : (bricks : ℕ) (d : Gfid) (n : List ℕ) (o : Origin) (room : HealRoom) (s : Scene) → MayCreate bricks d n o room s → (create_stage (first_create bricks d n o room)).knows s
+first_knows bricks d n o room s h = (
+  one_knows bricks d Shared n s (one_fresh bricks d Shared n s h.count h.home h.deeds),
+  record { comes = h.comes; scope = refl; memory = h.memory; whole = tt },
+)
 
-pub first_starts : (bricks : ℕ) (d : Gfid) (n : List ℕ) (o : Origin) → StartsCreate bricks d (create_stage (first_create bricks d n o))
-first_starts bricks d n o =
+pub first_starts : (bricks : ℕ) (d : Gfid) (n : List ℕ) (o : Origin) (room : HealRoom) → StartsCreate bricks d (create_stage (first_create bricks d n o room))
+first_starts bricks d n o room =
     let x = starts bricks d Shared n in
     let v = x.variant in
     record { brick = x.brick; request = x.request; claims = x.claims; variant = omega arith }

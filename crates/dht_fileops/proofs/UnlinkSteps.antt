@@ -5,7 +5,7 @@ use Rattle.std.proofs.lemmas.Bool.Decides.{nat_tests}
 use Rattle.dht_types.proofs.PutLaws.{exact_entry, exact_gfid, put_same}
 use Rattle.dht_types.specs.Put.{same_entry}
 use Rattle.dht_types.specs.Gfid.{root}
-use Rattle.dht_types.specs.History.{Deeds, Tells, deeds_after, is_carried}
+use Rattle.dht_types.specs.History.{Deeds, HasPoint, Tells, deeds_after, is_carried}
 use Rattle.dht_types.specs.Tree.{Tree, Node, Refuse, says, unlinked as tree_unlinked, answer_of}
 use Rattle.dht_types.specs.declared.calls.Answer.TheVariants.{Done as IsDone, Fault}
 use Rattle.dht_types.specs.declared.calls.Call.{Call}
@@ -13,7 +13,7 @@ use Rattle.dht_types.specs.declared.calls.Call.TheVariants.{Unlink as Called}
 use Rattle.dht_types.specs.declared.calls.TreeStep.{TreeStep}
 use Rattle.dht_types.specs.declared.calls.TreeStep.TheVariants.{RemoveFile}
 use Rattle.dht_types.specs.declared.errors.Errno.{Errno}
-use Rattle.dht_types.specs.declared.errors.Errno.TheVariants.{Enoent, Estale}
+use Rattle.dht_types.specs.declared.errors.Errno.TheVariants.{Eisdir, Enoent, Estale}
 use Rattle.dht_types.specs.declared.identifiers.Gfid.{Gfid}
 use Rattle.dht_types.specs.declared.identifiers.BrickNo.{BrickNo}
 use Rattle.dht_types.specs.declared.locks.Key.TheVariants.{Dir as DirKey, Entry as NameKey}
@@ -57,15 +57,15 @@ use Rattle.dht_section.specs.Disk.{dir_at, file_at, slot_at}
 use Rattle.dht_section.specs.Ended.{Learns, ended}
 use Rattle.dht_section.specs.Faults.{NotesFault, brick_fault, part_fault}
 use Rattle.dht_section.specs.Location.{IsHeldAt, entry_at}
-use Rattle.dht_section.specs.Looks.{IsNoDir, file_in}
+use Rattle.dht_section.specs.Looks.{file_in}
 use Rattle.dht_section.specs.MayAnswerLaws.{may_answer_moved}
 use Rattle.dht_section.specs.Moves.{Guarantee, deeds_by, outcome_of, step_of, tree_by}
 use Rattle.dht_section.specs.Parts.{EndsByFault, part_ending}
 use Rattle.dht_section.specs.Reap.{IsOrphan, reap_after, reap_ending, reap_stage}
 use Rattle.dht_section.specs.Replies.{fault_of}
 use Rattle.dht_section.specs.Scene.{Scene, Sound, MayAnswer, NameStands, fault_finish}
-use Rattle.dht_section.specs.Section.{all_claimed, IsLooked, KeepsScope, LeavesUnlocks, NamesGone, Outlasts, fault_now, found_shape, held_layout, held_looked, last_lock, opened_ending, opened_fault, section_after, section_fault, section_scope, section_stage, section_taught, turn_layout}
-use Rattle.dht_section.specs.Shapes.{Plain, either, node_of}
+use Rattle.dht_section.specs.Section.{all_claimed, IsLooked, KeepsScope, LeavesUnlocks, NamesGone, Outlasts, fault_now, held_layout, held_looked, last_lock, node_seen, opened_ending, opened_fault, section_after, section_fault, section_scope, section_stage, section_taught, turn_layout}
+use Rattle.dht_section.specs.Shapes.{Plain, either}
 use Rattle.dht_section.specs.Stages.{Served, GoesOn, EndsIn, MayClaimNext, Moves, MatchTurn, answered}
 use Rattle.dht_section.specs.Sweep.{IsLeft, IsSwept, Sweeps, drop_ask, first_sweep, linkto_there, next_linkto, seen_linktos, sweep_after, sweep_at, sweep_stage}
 use Rattle.dht_section.specs.Views.{core, links_to, view_of}
@@ -89,9 +89,9 @@ use Rattle.dht_section.specs.declared.section.Opened.{Opened}
 use Rattle.dht_section.specs.declared.section.Opened.TheVariants.{Held as Holding, Gone as IsGone, Stopped as IsStopped}
 use Rattle.dht_section.specs.declared.section.Section.{Section}
 use Rattle.dht_section.specs.declared.sweep.Sweep.{Sweep}
-use Rattle.dht_fileops.specs.Finish.{done_at, refused_at}
+use Rattle.dht_section.specs.Finish.{done_at, refused_at}
 use Rattle.dht_fileops.specs.Unlink.{IsLinked, IsUnlink, MayUnlink, Removes, Secures, StartsUnlink, WasLast, closed, first_unlink, is_last, orphan_of, removed, removed_closed, removed_closing, removed_finish, removed_locks, sweeping, swept, swept_by, unlink_after, unlink_answered, unlink_by, unlink_closed, unlink_fault, unlink_held, unlink_layout, unlink_reaped, unlink_secured, unlink_stage, unlink_swept, unlink_taught, unlink_unless, unlinked}
-use Rattle.dht_fileops.specs.UnlinkLaws.{linked_housed, linked_main, linked_says, linked_stands}
+use Rattle.dht_fileops.specs.UnlinkLaws.{file_no_dir, linked_housed, linked_main, linked_says, linked_stands}
 use Rattle.dht_fileops.specs.declared.unlink.Removed.{Removed}
 use Rattle.dht_fileops.specs.declared.unlink.Unlink.{Unlink}
 use Rattle.dht_fileops.specs.declared.unlink.Unlink.TheVariants.{Securing, Unlinking, Sweeping, Reaping, Ending}
@@ -105,44 +105,47 @@ Went m r t turn = MatchTurn turn (λ n. GoesOn (unlink_stage m) (unlink_stage n)
 call_moved : (l : Location) (s t : Scene) (a : Ask) (r : Reply) → IsUnlink l s → Guarantee s a r t → IsUnlink l t
 call_moved l s t a r h m = m.mine.call ∙ h
 
--- a name that is not there is told to be missing
-says_missing : (p : Tree) (d : Gfid) (n : List ℕ) (g : Gfid) → p.dirs d ≡ true → p.names (d, n) ≡ None → answer_of (says p (Called d n) g) ≡ Some (Fault Enoent)
-says_missing p d n g e k = ap (λ b. answer_of (if b then tree_unlinked d n (p.names (d, n)) else Refuse Estale)) e ∙ ap (λ (o : Option Node). answer_of (tree_unlinked d n o)) k
+-- a name at which no file is refuses the call
+says_refused : (p : Tree) (d : Gfid) (n : List ℕ) (there : Option Node) (e : Errno) (g : Gfid) → answer_of (tree_unlinked d n there) ≡ Some (Fault e) → p.dirs d ≡ true → p.names (d, n) ≡ there → answer_of (says p (Called d n) g) ≡ Some (Fault e)
+says_refused p d n there e g refused housed k =
+    ap (λ b. answer_of (if b then tree_unlinked d n (p.names (d, n)) else Refuse Estale)) housed
+    ∙ (ap (λ (o : Option Node). answer_of (tree_unlinked d n o)) k ∙ refused)
 
-missing_earned : (bricks : ℕ) (l : Location) (x : Looked) (s : Scene) → x.sight.what ≡ Absent → IsUnlink l s → s.mine.deeds ≡ None → IsLooked bricks (entry_at l) x s → MayAnswer (refused_at Enoent x.at) s
-missing_earned bricks l x s e call fresh k = record {
+refused_earned : (bricks : ℕ) (l : Location) (x : Looked) (e : Errno) (s : Scene) → answer_of (tree_unlinked l.directory l.name (node_seen x.sight.what)) ≡ Some (Fault e) → IsUnlink l s → s.mine.deeds ≡ None → IsLooked bricks (entry_at l) x s → HasPoint s.history s.mine (Some x.at) (Fault e)
+refused_earned bricks l x e s refused call fresh k = record {
   point = x.at;
   printed = refl;
   after = k.saw.after;
   before = k.saw.before;
-  tells = subst (λ (d : Option Deeds). Tells s.history s.mine.call d x.at (Fault Enoent)) (sym fresh)
+  tells = subst (λ (d : Option Deeds). Tells s.history s.mine.call d x.at (Fault e)) (sym fresh)
       (λ (g : Gfid). ap (λ (c : Call Gfid). answer_of (says (s.history.past x.at) c g)) call
-      ∙ says_missing (s.history.past x.at) l.directory l.name g k.saw.directory (k.saw.node ∙ ap (λ (y : What). node_of (found_shape (file_in y))) e));
+      ∙ says_refused (s.history.past x.at) l.directory l.name (node_seen x.sight.what) e g refused k.saw.directory k.saw.node);
 }
 
 -- ---- the section
 
--- the locks are given back, and nothing has the name
-missing_step : (l : Location) (m : Section) (h : Held) (r : Reply) (t : Scene) → (held_looked h (entry_at l)).sight.what ≡ Absent → IsUnlink l t → IsHeldAt l h t → Outlasts m (Holding h) → EndsIn (section_stage m) (opened_ending (Holding h)) t → GoesOn (unlink_stage (Securing l m)) (unlink_stage (closed l h (refused_at Enoent (held_looked h (entry_at l)).at))) r t
-missing_step l m h r t e call held left ends =
-    let x = held_looked h (entry_at l) in
-    let earned = missing_earned h.scope.bricks l x t e call held.held.fresh.deeds (looked_is l h t held) in
-    part_ends (section_stage m) (unlink_stage (closed l h (refused_at Enoent x.at))) (opened_ending (Holding h)) (l.bricks + 3) (λ s. Secures l m s) r t ends refl (omega arith) (closes h (refused_at Enoent x.at) t ends.earned earned).knows
+-- the locks are given back, and no file has the name
+refused_step : (l : Location) (m : Section) (h : Held) (f : Finish) (r : Reply) (t : Scene) → MayAnswer f t → Outlasts m (Holding h) → EndsIn (section_stage m) (opened_ending (Holding h)) t → GoesOn (unlink_stage (Securing l m)) (unlink_stage (closed l h f)) r t
+refused_step l m h f r t earned left ends = part_ends (section_stage m) (unlink_stage (closed l h f)) (opened_ending (Holding h)) (l.bricks + 3) (λ s. Secures l m s) r t ends refl (omega arith) (closes h f t ends.earned earned).knows
 
 -- or a file has it
 linked_step : (l : Location) (m : Section) (h : Held) (p : Place) (r : Reply) (t : Scene) → file_in (held_looked h (entry_at l)).sight.what ≡ Some p → IsUnlink l t → IsHeldAt l h t → Outlasts m (Holding h) → EndsIn (section_stage m) (opened_ending (Holding h)) t → GoesOn (unlink_stage (Securing l m)) (unlink_stage (Unlinking p l h)) r t
 linked_step l m h p r t e call held left ends = part_ends (section_stage m) (unlink_stage (Unlinking p l h)) (opened_ending (Holding h)) (l.bricks + 3) (λ s. Secures l m s) r t ends refl (omega arith) (record { call = call; held = held; there = e })
 
-held_by : (x : What) (l : Location) (m : Section) (h : Held) (r : Reply) (t : Scene) → (held_looked h (entry_at l)).sight.what ≡ x → IsNoDir x → IsUnlink l t → IsHeldAt l h t → Outlasts m (Holding h) → EndsIn (section_stage m) (opened_ending (Holding h)) t → GoesOn (unlink_stage (Securing l m)) (unlink_stage (unlink_by x l h)) r t
-held_by Absent l m h r t e file call held left ends = missing_step l m h r t e call held left ends
-held_by (Dir g) l m h r t e file call held left ends = absurd file
-held_by (File f b n) l m h r t e file call held left ends = linked_step l m h (record { brick = b; file = f }) r t (ap file_in e) call held left ends
+held_by : (x : What) (l : Location) (m : Section) (h : Held) (r : Reply) (t : Scene) → (held_looked h (entry_at l)).sight.what ≡ x → IsUnlink l t → IsHeldAt l h t → Outlasts m (Holding h) → EndsIn (section_stage m) (opened_ending (Holding h)) t → GoesOn (unlink_stage (Securing l m)) (unlink_stage (unlink_by x l h)) r t
+held_by Absent l m h r t e call held left ends =
+    let x = held_looked h (entry_at l) in
+    refused_step l m h (refused_at Enoent x.at) r t (refused_earned h.scope.bricks l x Enoent t (ap (λ (y : What). answer_of (tree_unlinked l.directory l.name (node_seen y))) e) call held.held.fresh.deeds (looked_is l h t held)) left ends
+held_by (Dir g) l m h r t e call held left ends =
+    let x = held_looked h (entry_at l) in
+    refused_step l m h (refused_at Eisdir x.at) r t (refused_earned h.scope.bricks l x Eisdir t (ap (λ (y : What). answer_of (tree_unlinked l.directory l.name (node_seen y))) e) call held.held.fresh.deeds (looked_is l h t held)) left ends
+held_by (File f b n) l m h r t e call held left ends = linked_step l m h (record { brick = b; file = f }) r t (ap file_in e) call held left ends
 
 held_step : (l : Location) (m : Section) (h : Held) (r : Reply) (at : ℕ) (s t : Scene) → h.scope ≡ section_scope m → Outlasts m (Holding h) → EndsIn (section_stage m) (opened_ending (Holding h)) t → Served (unlink_stage (Securing l m)) r at s t → GoesOn (unlink_stage (Securing l m)) (unlink_stage (unlink_held l h)) r t
 held_step l m h r at s t scope left ends v =
     let k = v.is_at.knows.1 in
     let held : IsHeldAt l h t = record { held = ends.earned; scope = scope ∙ k.scope } in
-    held_by (held_looked h (entry_at l)).sight.what l m h r t refl (looked_is l h t held).file (call_moved l s t _ r k.call v.moved) held left ends
+    held_by (held_looked h (entry_at l)).sight.what l m h r t refl (call_moved l s t _ r k.call v.moved) held left ends
 
 refuses_unlink : (l : Location) (p : Tree) (g : Gfid) → p.dirs l.directory ≡ false → answer_of (says p (Called l.directory l.name) g) ≡ Some (Fault Estale)
 refuses_unlink l p g e = ap (λ b. answer_of (if b then tree_unlinked l.directory l.name (p.names (entry_at l)) else Refuse Estale)) e
@@ -175,8 +178,8 @@ closed_step p l k f r at s t earned h = record {
 }
 
 -- a request that was carried out took the name away
-removal_done : (p : Place) (l : Location) (k : Held) (r : Reply) (s t : Scene) → is_carried (reply_kind r) ≡ true → (m : Guarantee s (unlink_stage (Unlinking p l k)).asks r t) → step_of (OnNames (Remove l.directory l.name p.file)) m.real ≡ Some (RemoveFile l.directory l.name)
-removal_done p l k r s t e m = ap (λ (y : Reply). step_of (OnNames (Remove l.directory l.name p.file)) y) (real_is s t _ r m (carried_sound r e)) ∙ carried_step (Remove l.directory l.name p.file) r e
+removal_done : (p : Place) (l : Location) (k : Held) (r : Reply) (s t : Scene) → is_carried (reply_kind r) ≡ true → (m : Guarantee s (unlink_stage (Unlinking p l k)).asks r t) → step_of p.brick.0 (OnNames (Remove l.directory l.name p.file)) m.real ≡ Some (RemoveFile l.directory l.name)
+removal_done p l k r s t e m = ap (λ (y : Reply). step_of p.brick.0 (OnNames (Remove l.directory l.name p.file)) y) (real_is s t _ r m (carried_sound r e)) ∙ carried_step p.brick.0 (Remove l.directory l.name p.file) r e
 
 done_earned : (p : Place) (l : Location) (k : Held) (r : Reply) (at : ℕ) (s t : Scene) → is_carried (reply_kind r) ≡ true → Served (unlink_stage (Unlinking p l k)) r at s t → MayAnswer (done_at at) t
 done_earned p l k r at s t e h =
@@ -314,7 +317,7 @@ removed_left p l k r at s t z h =
         has = λ i w. removed_core p l k s t linked taken i (omega arith);
         node = removed_node p l k r s t (carried_out p l k r s t h.before z linked m) m;
       };
-      left = λ b w. removed_linkto p l k s t linked taken b ∙ (linkto_seen l k b s linked.held w ∙ left_all (seen_linktos l k) b);
+      left = λ b w. removed_linkto p l k s t linked taken b ∙ (linkto_seen l k b s linked.held (file_no_dir (held_looked k (entry_at l)).sight.what p linked.there) w ∙ left_all (seen_linktos l k) b);
     }
 
 -- ---- how it goes on
@@ -414,14 +417,14 @@ swept_step x m (Done (Some e)) r at s t went noted v =
     (closed_knows x (Some e) t (closing_kept x _ r s t (drop_deeds m.location m.brick s t r v.moved) v.is_at.knows.1.closing v.moved) went.earned)
 
 -- a reap does no step
-no_deed : (locks : List Lock) (m : Reap) (r : Reply) → step_of (reap_stage locks m).asks.request r ≡ None
-no_deed locks (Sealing x) (reply.Ok g) = refl
-no_deed locks (Sealing x) r = refl
-no_deed locks (Dropping x) (reply.Ok g) = refl
-no_deed locks (Dropping x) r = refl
+no_deed : (locks : List Lock) (m : Reap) (b : ℕ) (r : Reply) → step_of b (reap_stage locks m).asks.request r ≡ None
+no_deed locks (Sealing x) b (reply.Ok g) = refl
+no_deed locks (Sealing x) b r = refl
+no_deed locks (Dropping x) b (reply.Ok g) = refl
+no_deed locks (Dropping x) b r = refl
 
 deeds_kept : (locks : List Lock) (m : Reap) (r : Reply) (s t : Scene) → Guarantee s (reap_stage locks m).asks r t → t.mine.deeds ≡ s.mine.deeds
-deeds_kept locks m r s t g = g.mine.deeds_are ∙ ap (λ (o : Option TreeStep). deeds_by s t.history.size o) (no_deed locks m g.real)
+deeds_kept locks m r s t g = g.mine.deeds_are ∙ ap (λ (o : Option TreeStep). deeds_by s t.history.size o) (no_deed locks m (reap_stage locks m).asks.brick.0 g.real)
 
 reap_some : (locks : List Lock) (m : Reap) → 0 < (reap_stage locks m).variant
 reap_some locks (Sealing x) = omega arith

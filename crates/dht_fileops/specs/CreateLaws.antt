@@ -1,5 +1,5 @@
 -- The laws of a create as a machine.
-use Rattle.std.proofs.Common.{◌≡◌, ◌<◌, ◌+◌, ◌^◌, ℕ, List, [], ◌∷◌, refl, sym, ◌∙◌, ap, subst, arith, true}
+use Rattle.std.proofs.Common.{◌≡◌, ◌<◌, ◌+◌, ◌*◌, ◌^◌, ℕ, List, [], ◌∷◌, refl, sym, ◌∙◌, ap, subst, arith, true}
 use Rattle.std.specs.Prelude.{Option, Some, None, if◌then◌else◌, suc}
 use Rattle.dht_types.specs.Gfid.{made}
 use Rattle.dht_types.specs.Tree.{Tree, Node, Do, Refuse, says, created}
@@ -16,6 +16,7 @@ use Rattle.dht_brick.specs.declared.requests.NameRequest.TheVariants.{Create as 
 use Rattle.dht_section.proofs.KeptLaws.{kept_directory, kept_holder}
 use Rattle.dht_section.specs.ClosingLaws.{closing_permitted, closing_stable}
 use Rattle.dht_section.specs.Invariant.{Used, ByBytes}
+use Rattle.dht_section.specs.OriginLaws.{comes_from_stable}
 use Rattle.dht_section.specs.PartLaws.{part_permitted, part_stable}
 use Rattle.dht_section.specs.Permits.{Changes}
 use Rattle.dht_section.specs.Rely.{Rely}
@@ -30,11 +31,17 @@ use Rattle.dht_section.specs.declared.location.Location.{Location}
 use Rattle.dht_section.specs.declared.section.Held.{Held}
 use Rattle.dht_section.specs.declared.section.Section.{Section}
 use Rattle.dht_section.specs.declared.sweep.Sweep.{Sweep}
-use Rattle.dht_fileops.specs.Create.{Clears, ComesOf, IsFree, Makes, MayMake, Secures, create_stage, held_locks}
+use Rattle.dht_xattr.specs.declared.range.Range.{Range}
+use Rattle.dht_heal.specs.HealLaws.{room_stable}
+use Rattle.dht_heal.specs.Restart.{restart_stage}
+use Rattle.dht_heal.specs.RestartLaws.{restart_permitted, restart_stable, sees_anew_stable}
+use Rattle.dht_heal.specs.declared.restart.Restart.{Restart}
+use Rattle.dht_heal.specs.declared.room.HealRoom.{HealRoom}
+use Rattle.dht_fileops.specs.Create.{Clears, ComesOf, IsFree, Makes, MayMake, Renews, Secures, after_section, create_stage, held_locks}
 use Rattle.dht_fileops.specs.declared.create.Create.{Create}
-use Rattle.dht_fileops.specs.declared.create.Create.TheVariants.{Securing, Sweeping, Creating, Ending}
+use Rattle.dht_fileops.specs.declared.create.Create.TheVariants.{Securing, Restarting, Sweeping, Creating, Ending}
 use Rattle.dht_fileops.specs.declared.create.NewFile.{NewFile}
-use Rattle.dht_fileops.specs.declared.create.Origin.{Origin}
+use Rattle.dht_fileops.specs.declared.create.Target.{Target}
 
 -- ---- what the tree says
 
@@ -85,24 +92,27 @@ makes_file x l h s sound k = record {
 }
 
 pub create_permitted : (m : Create) → MaySend (create_stage m)
-create_permitted (Securing o l m) s sound h = part_permitted (section_stage m) (l.bricks + 1) (λ s. Secures o l m s) (section_permitted m) s sound h
+create_permitted (Securing x learned room m) s sound h = part_permitted (section_stage m) (after_section learned x.location.bricks) (λ s. Secures x learned room m s) (section_permitted m) s sound h
+create_permitted (Restarting x layout m) s sound h = part_permitted (restart_stage m) (2 * x.location.bricks + 6) (λ s. Renews x m s) (restart_permitted m) s sound h
 create_permitted (Sweeping m x l k) s sound h = part_permitted (sweep_stage (held_locks k) None m) (suc (last_lock k.scope) + 1) (λ s. Clears m x l k s) (sweep_permitted (held_locks k) None m) s sound h
 create_permitted (Creating x l k) s sound h = record { there = h.knows.may.makes.there; may = (tt, makes_file x l k s sound h.knows) }
 create_permitted (Ending c learned) s sound h = closing_permitted c s sound h
 
 -- ---- what others leave
 
-comes_stable : (x : Origin) (l : Location) (s t : Scene) → ComesOf x l s → Rely s t → ComesOf x l t
-comes_stable x l s t h o = record {
-  call = o.mine.call ∙ h.call;
-  run = h.run ∙ sym o.run;
-  client = h.client ∙ sym o.who;
-  number = h.number ∙ sym o.mine.number;
-  small = h.small;
+comes_stable : (x : Target) (s t : Scene) → ComesOf x s → Rely s t → ComesOf x t
+comes_stable x s t h o = record { call = o.mine.call ∙ h.call; origin_is = comes_from_stable x.origin s t h.origin_is o }
+
+secures_stable : (x : Target) (learned : Option (List (Option Range))) (room : HealRoom) (m : Section) (s t : Scene) → Secures x learned room m s → Rely s t → Secures x learned room m t
+secures_stable x learned room m s t h o = record {
+  comes = comes_stable x s t h.comes o;
+  scope = h.scope;
+  memory = room_stable room s t h.memory o;
+  whole = sees_anew_stable learned x.location.directory m s t h.whole o;
 }
 
-secures_stable : (x : Origin) (l : Location) (m : Section) (s t : Scene) → Secures x l m s → Rely s t → Secures x l m t
-secures_stable x l m s t h o = record { comes = comes_stable x l s t h.comes o; scope = h.scope }
+renews_stable : (x : Target) (m : Restart) (s t : Scene) → Renews x m s → Rely s t → Renews x m t
+renews_stable x m s t h o = record { comes = comes_stable x s t h.comes o; scope = h.scope }
 
 makes_stable : (x : NewFile) (l : Location) (s t : Scene) → Makes x l s → Rely s t → Makes x l t
 makes_stable x l s t h o = record {
@@ -119,7 +129,8 @@ clears_stable : (m : Sweep) (x : NewFile) (l : Location) (h : Held) (s t : Scene
 clears_stable m x l h s t k o = record { name = k.name; may = may_make_stable x l h s t k.may o }
 
 pub create_stable : (m : Create) → IsStable (create_stage m)
-create_stable (Securing x l m) s t h o = part_stable (section_stage m) (l.bricks + 1) (λ s. Secures x l m s) (section_stable m) (secures_stable x l m) s t h o
+create_stable (Securing x learned room m) s t h o = part_stable (section_stage m) (after_section learned x.location.bricks) (λ s. Secures x learned room m s) (section_stable m) (secures_stable x learned room m) s t h o
+create_stable (Restarting x layout m) s t h o = part_stable (restart_stage m) (2 * x.location.bricks + 6) (λ s. Renews x m s) (restart_stable m) (renews_stable x m) s t h o
 create_stable (Sweeping m x l k) s t h o = part_stable (sweep_stage (held_locks k) None m) (suc (last_lock k.scope) + 1) (λ s. Clears m x l k s) (sweep_stable (held_locks k) None m) (clears_stable m x l k) s t h o
 create_stable (Creating x l k) s t h o = record { may = may_make_stable x l k s t h.may o; swept = swept_stable l None s t h.swept o }
 create_stable (Ending c learned) s t h o = closing_stable c s t h o

@@ -1,4 +1,3 @@
-pub mod Finish
 pub mod Unlink
 pub mod UnlinkLaws
 pub mod Create

@@ -45,7 +45,7 @@ use Rattle.dht_section.specs.declared.section.Opened.{Opened}
 use Rattle.dht_section.specs.declared.section.Opened.TheVariants.{Held as Holding, Gone as IsGone, Stopped as IsStopped}
 use Rattle.dht_section.specs.declared.section.Section.{Section}
 use Rattle.dht_section.specs.declared.sweep.Sweep.{Sweep}
-use Rattle.dht_fileops.specs.Finish.{done_at, refused_at}
+use Rattle.dht_section.specs.Finish.{done_at, refused_at}
 use Rattle.dht_fileops.specs.declared.unlink.Removed.{Removed}
 use Rattle.dht_fileops.specs.declared.unlink.Unlink.{Unlink}
 use Rattle.dht_fileops.specs.declared.unlink.Unlink.TheVariants.{Securing, Unlinking, Sweeping, Reaping, Ending}

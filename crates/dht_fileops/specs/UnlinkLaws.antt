@@ -16,18 +16,20 @@ use Rattle.dht_types.specs.declared.stored.Slot.{Slot}
 use Rattle.dht_brick.specs.Contents.{bare}
 use Rattle.dht_brick.specs.declared.requests.NameRequest.TheVariants.{Unlink as Remove}
 use Rattle.dht_section.proofs.EarlyLaws.{here_at}
+use Rattle.dht_section.proofs.HeldLaws.{stands_found}
 use Rattle.dht_section.proofs.LocationLaws.{held_at_stable, in_tree, looked_is, name_held}
 use Rattle.dht_section.specs.Disk.{dir_at, slot_at}
 use Rattle.dht_section.specs.Closing.{closing_stage}
 use Rattle.dht_section.specs.ClosingLaws.{closing_permitted, closing_stable}
 use Rattle.dht_section.specs.Location.{entry_at}
+use Rattle.dht_section.specs.Looks.{IsNoDir, file_in}
 use Rattle.dht_section.specs.PartLaws.{part_permitted, part_stable}
 use Rattle.dht_section.specs.Permits.{Changes}
 use Rattle.dht_section.specs.Reap.{reap_stage}
 use Rattle.dht_section.specs.ReapLaws.{orphan_stable, reap_permitted, reap_stable}
 use Rattle.dht_section.specs.Rely.{Rely}
 use Rattle.dht_section.specs.Scene.{Scene, Sound, NameStands, Wants}
-use Rattle.dht_section.specs.Section.{found_shape, last_lock, section_stage}
+use Rattle.dht_section.specs.Section.{found_shape, held_looked, last_lock, section_stage}
 use Rattle.dht_section.specs.SectionLaws.{section_permitted, section_stable}
 use Rattle.dht_section.specs.Shapes.{Bare, Plain}
 use Rattle.dht_section.specs.Stages.{MaySend, IsStable}
@@ -36,6 +38,8 @@ use Rattle.dht_section.specs.SweepLaws.{sweep_permitted, sweep_stable}
 use Rattle.dht_section.specs.Views.{visible}
 use Rattle.dht_section.specs.declared.location.Location.{Location}
 use Rattle.dht_section.specs.declared.looks.Place.{Place}
+use Rattle.dht_section.specs.declared.looks.What.{What}
+use Rattle.dht_section.specs.declared.looks.What.TheVariants.{Absent, Dir as Directory, File as AFile}
 use Rattle.dht_section.specs.declared.reap.Orphan.{Orphan}
 use Rattle.dht_section.specs.declared.section.Held.{Held}
 use Rattle.dht_section.specs.declared.section.Section.{Section}
@@ -47,8 +51,15 @@ use Rattle.dht_fileops.specs.declared.unlink.Unlink.TheVariants.{Securing, Unlin
 -- ---- the name
 
 -- it stands as the file on its brick
+pub file_no_dir : (what : What) (p : Place) → file_in what ≡ Some p → IsNoDir what
+file_no_dir Absent p e = tt
+file_no_dir (Directory g) p e = absurd (let z : None ≡ Some p = e in cc)
+file_no_dir (AFile f b links) p e = tt
+
 pub linked_stands : (p : Place) (l : Location) (h : Held) (s : Scene) → IsLinked p l h s → NameStands s (entry_at l) (Plain p.brick.0 p.file)
-linked_stands p l h s k = subst (λ (o : Option Place). NameStands s (entry_at l) (found_shape o)) k.there (looked_is l h s k.held).stands
+linked_stands p l h s k =
+    let what = (held_looked h (entry_at l)).sight.what in
+    subst (λ (o : Option Place). NameStands s (entry_at l) (found_shape o)) k.there (stands_found (entry_at l) what s (file_no_dir what p k.there) (looked_is l h s k.held).stands)
 
 -- the main part that shows it
 visible_file : (m : Option Main) (f : Gfid) → visible m ≡ Some (File f None) → m ≡ Some (File f None)

@@ -1,7 +1,7 @@
 //! Create: under the locks of its name, a call that makes a file where no brick has one. Linktos of
-//! the name go first.
+//! the name go first; and where no brick can hold the name yet, its directory is healed before.
 
-ghost use Rattle.std.specs.Prelude.{◌≡◌, IfOk, option_map, unwrap_or};
+ghost use Rattle.std.specs.Prelude.{◌≡◌, IfOk, option_map};
 ghost use Rattle.dht_section.specs.Again.{IsUnanswered};
 ghost use Rattle.dht_section.specs.Ended.{ended, Learns};
 ghost use Rattle.dht_section.specs.Faults.{NotesFault};
@@ -9,32 +9,34 @@ ghost use Rattle.dht_section.specs.Location.{section_at};
 ghost use Rattle.dht_section.specs.Scene.{Scene};
 ghost use Rattle.dht_section.specs.Stages.{Moves};
 ghost use Rattle.dht_section.specs.declared.machine.Turn.TheVariants as turn;
-ghost use Rattle.dht_fileops.specs.Create.{create_stage, create_fault, create_layout, create_taught, create_after, create_absent, create_held, create_swept, first_create, new_file, MayCreate, StartsCreate, closed, create_answered};
+ghost use Rattle.dht_fileops.specs.Create.{create_stage, create_fault, create_layout, create_taught, create_after, create_absent, create_answered, create_held, create_swept, first_create, new_file, renewing, MayCreate, StartsCreate, clearing, closed};
 ghost use Rattle.dht_fileops.specs.CreateLaws.{create_permitted, create_stable};
 
-use super::finish::{made_at, refused_at};
 use dht_brick::replies::Reply;
 use dht_brick::requests::{NameRequest, Request};
+use dht_heal::restart::{Restart, Restarted, ready_holder};
+use dht_heal::room::HealRoom;
 use dht_section::closing::Closing;
 use dht_section::ended::Ended;
+use dht_section::finish::{made_at, refused_at};
 use dht_section::location::Location;
 use dht_section::looks::What;
 use dht_section::machine::{Ask, Finish, Machine, Turn, fault_finish};
+use dht_section::origin::Origin;
 use dht_section::replies::{fault_of, is_carried};
 use dht_section::section::{Held, Opened, Section};
 use dht_section::sweep::Sweep;
 use dht_types::errors::Errno;
-use dht_types::identifiers::{BrickNo, CallNo, ClientNo, Gfid};
+use dht_types::identifiers::{BrickNo, Gfid};
 use dht_types::names::Name;
 use dht_xattr::layout::Layout;
 use std::alloc::{AllocError, Global};
 
-/// Where a gfid comes from: the call that makes it, of which client and in which run.
+/// What a create is to make: a file at this name, with a gfid of this origin.
 #[derive(Clone, Copy)]
-pub struct Origin {
-    pub run: u32,
-    pub client: ClientNo,
-    pub call: CallNo,
+pub struct Target {
+    pub origin: Origin,
+    pub location: Location,
 }
 
 /// The file that a create makes, and the brick to which it goes.
@@ -47,8 +49,11 @@ pub struct NewFile {
 /// A create. Each stage is one request, or those of a part that is a program of its own.
 #[derive(Drop)]
 pub enum Create {
-    /// Nothing is known of the name.
-    Securing(Origin, Location, Section),
+    /// Nothing is known of the name. This layout was read before the directory was healed, if it was.
+    Securing(Target, Option<Layout>, HealRoom, Section),
+    /// No brick could hold the name by this layout: the directory is healed, and the section begins
+    /// anew.
+    Restarting(Target, Layout, Restart),
     /// Both locks are held, no brick has the name, and the layout is known. Linktos of the name are
     /// left.
     Sweeping(Sweep, NewFile, Location, Held),
@@ -58,15 +63,13 @@ pub enum Create {
     Ending(Closing, Option<Layout>),
 }
 
-impl Origin {
-    /// The file that its call makes on a brick. The layout of a directory leaves out no hash, so
-    /// there is a holder; brick 0 would stand for it.
-    fn new_file(&self, holder: Option<BrickNo>) -> NewFile
-        ensures { result ≡ new_file self.now (unwrap_or (option_map (λ b. b.0) holder) 0) }
+impl Target {
+    /// The file that goes to this brick.
+    fn new_file(&self, holder: BrickNo) -> NewFile
+        ensures { result ≡ new_file self.now.origin holder.0 }
     {
-        let holder = holder.unwrap_or(BrickNo(0));
         NewFile {
-            file: Gfid::made(self.run, self.client, self.call, holder),
+            file: self.origin.gfid(holder),
             holder,
         }
     }
@@ -80,24 +83,47 @@ fn close(location: Location, held: Held, finish: Finish) -> Create
     Create::Ending(held.close(finish), Some(layout))
 }
 
-/// How a create goes on that found no file or directory at its name.
-fn absent(origin: Origin, location: Location, held: Held) -> Create
-    ensures { result ≡ create_absent origin location held }
+/// How a create goes on that has this file to make: the linktos of its name go first, if there are
+/// some.
+fn clearing(sweep: Option<Sweep>, new: NewFile, location: Location, held: Held) -> Create
+    ensures { result ≡ clearing sweep new location held }
 {
-    let new = origin.new_file(held.holder(location.directory, &location.name));
-    match Sweep::begin(location, &held) {
+    match sweep {
         Some(sweep) => Create::Sweeping(sweep, new, location, held),
         None => Create::Creating(new, location, held),
     }
 }
 
-/// How a create goes on whose section is held.
-fn secured(origin: Origin, location: Location, held: Held) -> Create
-    ensures { result ≡ create_held origin location held }
+/// The directory is healed, and the section begins anew.
+fn renewing(target: Target, room: HealRoom, held: Held) -> Create
+    ensures { result ≡ renewing target room held }
 {
+    let layout = held.layout(target.location.directory, &target.location.name);
+    Create::Restarting(target, layout, Restart::begin(held, room))
+}
+
+/// How a create goes on that found no file or directory at its name.
+fn absent(target: Target, room: HealRoom, held: Held) -> Create
+    ensures { result ≡ create_absent target room held }
+{
+    match ready_holder(&target.location, &held) {
+        Some(holder) => {
+            let new = target.new_file(holder);
+            let sweep = Sweep::begin(target.location, &held);
+            clearing(sweep, new, target.location, held)
+        }
+        None => renewing(target, room, held),
+    }
+}
+
+/// How a create goes on whose section is held.
+fn secured(target: Target, room: HealRoom, held: Held) -> Create
+    ensures { result ≡ create_held target room held }
+{
+    let location = target.location;
     let found = held.found(location.directory, &location.name);
     match found.what {
-        What::Absent => absent(origin, location, held),
+        What::Absent => absent(target, room, held),
         _ => close(location, held, refused_at(Errno::Eexist, found.looked)),
     }
 }
@@ -130,17 +156,18 @@ fn create_answered(new: NewFile, location: Location, held: Held, reply: &Reply, 
 
 impl Create {
     /// The create of a file at a name, by the call of this origin, in a volume of so many bricks.
-    /// It takes the memory that the create will need.
+    /// It takes the memory that the create will need, beside that of a heal.
     pub fn begin(
         alloc: Global,
         bricks: u16,
         directory: Gfid,
         name: Name,
         origin: Origin,
+        room: HealRoom,
     ) -> Result<Create, AllocError>
-        ensures first { IfOk result (λ m. m ≡ first_create bricks directory name origin) }
+        ensures first { IfOk result (λ m. m ≡ first_create bricks directory name origin room) }
         ensures knows { IfOk result (λ m. (s : Scene)
-            → MayCreate bricks directory name origin s → (create_stage m).knows s) }
+            → MayCreate bricks directory name origin room s → (create_stage m).knows s) }
         // it asks for the directory's lock first, and sends so many requests at most
         ensures starts { IfOk result (λ m. StartsCreate bricks directory (create_stage m)) }
     {
@@ -150,7 +177,7 @@ impl Create {
             bricks,
         };
         let section = location.section(alloc)?;
-        Ok(Create::Securing(origin, location, section))
+        Ok(Create::Securing(Target { origin, location }, None, room, section))
     }
 
     /// Where it is after the reply to its request.
@@ -158,11 +185,21 @@ impl Create {
         ensures { result ≡ create_after self reply at }
     {
         match self {
-            Create::Securing(origin, location, section) => match section.take(reply, at) {
-                Turn::Go(section) => Turn::Go(Create::Securing(origin, location, section)),
-                Turn::Done(Opened::Held(held)) => Turn::Go(secured(origin, location, held)),
-                Turn::Done(Opened::Gone(_, line)) => Turn::Done(Ended::gone(line, None)),
-                Turn::Done(Opened::Stopped(errno)) => Turn::Done(Ended::stopped(errno, None)),
+            Create::Securing(target, learned, room, section) => match section.take(reply, at) {
+                Turn::Go(section) => Turn::Go(Create::Securing(target, learned, room, section)),
+                Turn::Done(Opened::Held(held)) => Turn::Go(secured(target, room, held)),
+                Turn::Done(Opened::Gone(_, line)) => Turn::Done(Ended::gone(line, learned)),
+                Turn::Done(Opened::Stopped(errno)) => Turn::Done(Ended::stopped(errno, learned)),
+            },
+            Create::Restarting(target, layout, restart) => match restart.take(reply, at) {
+                Turn::Go(restart) => Turn::Go(Create::Restarting(target, layout, restart)),
+                Turn::Done(Restarted::Ready(prepared, room)) => {
+                    let section = prepared.begin();
+                    Turn::Go(Create::Securing(target, Some(layout), room, section))
+                }
+                Turn::Done(Restarted::Stopped(errno)) => {
+                    Turn::Done(Ended::stopped(errno, Some(layout)))
+                }
             },
             Create::Sweeping(sweep, new, location, held) => match sweep.take(reply, at) {
                 Turn::Go(sweep) => Turn::Go(Create::Sweeping(sweep, new, location, held)),
@@ -191,7 +228,8 @@ impl Machine for Create {
 
     fn next(&self) -> Ask {
         match self {
-            Create::Securing(_, _, section) => section.next(),
+            Create::Securing(_, _, _, section) => section.next(),
+            Create::Restarting(_, _, restart) => restart.next(),
             Create::Sweeping(sweep, _, _, _) => sweep.next(),
             Create::Creating(new, location, _) => Ask {
                 brick: new.holder,

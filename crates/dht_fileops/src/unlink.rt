@@ -13,11 +13,11 @@ ghost use Rattle.dht_section.specs.declared.machine.Turn.TheVariants as turn;
 ghost use Rattle.dht_fileops.specs.Unlink.{unlink_stage, unlink_fault, unlink_layout, unlink_taught, unlink_after, unlink_held, first_unlink, MayUnlink, StartsUnlink, closed, is_last, orphan_of, removed_closed, swept, unlinked, unlink_answered};
 ghost use Rattle.dht_fileops.specs.UnlinkLaws.{unlink_permitted, unlink_stable};
 
-use super::finish::{done_at, refused_at};
 use dht_brick::replies::{Given, Reply};
 use dht_brick::requests::{NameRequest, Request};
 use dht_section::closing::Closing;
 use dht_section::ended::Ended;
+use dht_section::finish::{done_at, refused_at};
 use dht_section::location::Location;
 use dht_section::looks::{Place, What};
 use dht_section::machine::{Ask, Finish, Machine, Turn, fault_finish};

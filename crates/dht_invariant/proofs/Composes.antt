@@ -1,6 +1,6 @@
 -- Two transitions of one client, one after the other, are one.
-use Rattle.std.proofs.Common.{◌≡◌, ◌<◌, ◌≤◌, ℕ, true, refl, sym, ap, ◌∙◌, subst, inl, inr, ◌⊎◌, arith}
-use Rattle.std.specs.Prelude.{Option, Some, None, List, is_some, slice_index_or}
+use Rattle.std.proofs.Common.{◌≡◌, ◌<◌, ◌≤◌, ℕ, true, refl, sym, ap, ◌∙◌, subst, inl, inr, arith}
+use Rattle.std.specs.Prelude.{Option, Some, None, is_some}
 use Rattle.std.proofs.lemmas.Bool.{cases_lt}
 use Rattle.dht_types.specs.Gfid.{Entry, anchor}
 use Rattle.dht_types.specs.History.{History, PendingCall}
@@ -12,16 +12,16 @@ use Rattle.dht_types.specs.declared.stored.DirRecord.{DirRecord}
 use Rattle.dht_xattr.specs.Plan.{planned}
 use Rattle.dht_brick.specs.Contents.{Contents, slot}
 use Rattle.dht_section.specs.Claims.{Claim}
-use Rattle.dht_section.specs.Disk.{Disk, slot_at, dir_at, lock_at, range_of, holders}
+use Rattle.dht_section.specs.Disk.{Disk, slot_at, dir_at, lock_at, holders}
 use Rattle.dht_section.specs.Invariant.{Invariant}
 use Rattle.dht_section.specs.Names.{StandsAs}
-use Rattle.dht_section.specs.Rely.{Rely, AllPlanned, CopyStays, bounds}
-use Rattle.dht_section.specs.Scene.{HoldsDir, Guards}
+use Rattle.dht_section.specs.Planned.{AllPlanned}
+use Rattle.dht_section.specs.Rely.{Rely, CopyStays}
+use Rattle.dht_section.specs.Scene.{HoldsDir, HoldsAlone, HoldsName, Guards}
 use Rattle.dht_section.specs.Shapes.{NameShape, Grows, core_at}
 use Rattle.dht_section.specs.Views.{core, cores_of, links_to}
 use Rattle.dht_invariant.specs.Laws.{TransitionsCompose}
 use Rattle.dht_invariant.specs.Transition.{scene}
-use Rattle.dht_invariant.proofs.Basics.{some_same}
 use Rattle.dht_invariant.proofs.Frames.{links_core}
 use Rattle.dht_invariant.proofs.GrowsLaws.{grows_on, grew_between, linked_stays}
 
@@ -42,9 +42,15 @@ module _ (d e f : Disk) (s t u : History) (p q r : ℕ → Claim) (w : ClientNo)
   dir_stays : (g : Gfid) → HoldsDir (scene d s p w x) g → HoldsDir (scene e t q w x) g
   dir_stays g h = ap is_some (lock_stays g (Dir g)) ∙ h
 
+  holds_stays : (y : Entry) → HoldsName (scene d s p w x) y → HoldsName (scene e t q w x) y
+  holds_stays y h = record { name = lock_stays y.0 (Name y.0 y.1) ∙ h.name; dir = dir_stays y.0 h.dir }
+
+  alone_stays : (g : Gfid) → HoldsAlone (scene d s p w x) g → HoldsAlone (scene e t q w x) g
+  alone_stays g h = lock_stays g (Dir g) ∙ h
+
   guards_stay : (y : Entry) → Guards (scene d s p w x) y → Guards (scene e t q w x) y
-  guards_stay y (inl h) = inl (record { name = lock_stays y.0 (Name y.0 y.1) ∙ h.name; dir = dir_stays y.0 h.dir })
-  guards_stay y (inr h) = inr (lock_stays y.0 (Dir y.0) ∙ h)
+  guards_stay y (inl h) = inl (holds_stays y h)
+  guards_stay y (inr h) = inr (alone_stays y.0 h)
 
   -- the shapes of a guarded name at the three times
   record Three (y : Entry) : Type 0 where
@@ -88,26 +94,12 @@ module _ (d e f : Disk) (s t u : History) (p q r : ℕ → Claim) (w : ClientNo)
       let j = two.dirs g b i.0 (dir_stays g h) i.1 in
       (j.0, j.1, copy_on c i.0 j.0 i.2 j.2)
 
-  -- ranges that were planned are planned afterwards
-  planned_on : (g : Gfid) → HoldsDir (scene e t q w x) g → AllPlanned e t.weights g → AllPlanned f u.weights g
-  planned_on g h all b c l there = by (dir_at e b g) refl
-    where
-      by : (o : Option DirRecord) → dir_at e b g ≡ o → (bounds (range_of (Some c)) ≡ None) ⊎ (bounds (range_of (Some c)) ≡ bounds (slice_index_or (planned u.weights g) b None))
-      by None gone = two.added g b c h gone there b c l there
-      by (Some i) was =
-          let j = two.dirs g b i h was in
-          let same : bounds (range_of (Some c)) ≡ bounds (range_of (Some i)) = ap (λ (y : DirRecord). bounds (range_of (Some y))) (some_same (dir_at f b g) c j.0 there j.1) ∙ j.2.hashes in
-          elim (all b i (subst (λ (n : ℕ). b < n) two.count l) was) [
-            | inl none ↦ inl (same ∙ none)
-            | inr plan ↦ inr (same ∙ (plan ∙ ap (λ (ws : List ℕ). bounds (slice_index_or (planned ws g) b None)) (sym two.weights)))
-          ]
-
   added_on : (g : Gfid) (b : ℕ) (c : DirRecord) → HoldsDir (scene d s p w x) g → dir_at d b g ≡ None → dir_at f b g ≡ Some c → AllPlanned f u.weights g
   added_on g b c h none there = by (dir_at e b g) refl
     where
       by : (o : Option DirRecord) → dir_at e b g ≡ o → AllPlanned f u.weights g
       by None gone = two.added g b c (dir_stays g h) gone there
-      by (Some i) was = planned_on g (dir_stays g h) (one.added g b i h none was)
+      by (Some i) was = two.planned g (one.added g b i h none was)
 
   pub rely_on : Rely (scene d s p w x) (scene f u r w x)
   rely_on = record {
@@ -123,6 +115,10 @@ module _ (d e f : Disk) (s t u : History) (p q r : ℕ → Claim) (w : ClientNo)
     dirs = dirs_on;
     added = added_on;
     known = λ g h i. two.known g (dir_stays g h) (one.known g h i);
+    both = λ y g on h a st. two.both y g on (holds_stays y h) (alone_stays g a) (one.both y g on h a st);
+    planned = λ g h. two.planned g (one.planned g h);
+    made = λ g y h. two.made g y (one.made g y h);
+    still = λ alone. (let j = two.still alone in let i = one.still j.before in record { before = i.before; tree = j.tree ∙ i.tree; stores = λ b. j.stores b ∙ i.stores b });
     used = λ i h. two.used i (one.used i h);
     sealed = λ i h. two.sealed i (one.sealed i h);
     nameless = λ i h. two.nameless i (one.nameless i h);
@@ -139,5 +135,5 @@ transitions_compose c d e f s t u p q r k one two = record {
   pending = λ w ne. two.pending w ne ∙ one.pending w ne;
   claims = λ w ne. two.claims w ne ∙ one.claims w ne;
   elsewhere = λ b l. two.elsewhere b (subst (λ (n : ℕ). n ≤ b) (sym one.count) l) ∙ one.elsewhere b l;
-  others = λ w x ne. rely_on d e f s t u p q r w x k one.elsewhere two.elsewhere (one.others w x ne) (two.others w x ne);
+  others = λ w x ne h. rely_on d e f s t u p q r w x k one.elsewhere two.elsewhere (one.others w x ne h) (two.others w x ne (one.pending w.0 ne ∙ h));
 }

@@ -204,8 +204,8 @@ module _ (d e : Disk) (t : Tree) (b : ℕ) (x : Entry) (f : Gfid) (top : ℕ) (p
   create_keeps = record {
     names = name_all;
     files = file_all;
-    dirs = λ g. dir_kept d.count e.count g (dir_view d g) (dir_view e g) (t.dirs g) (t.dirs g) m.framed.count
-        (dir_view_same d e g same_dirs (slots_keep (λ (p : Slot). is_dir g p.main) (ap (λ (p : Slot). is_dir g p.main) m.slot ∙ sym (no_dir g (slot_at d b x) was_bare)))) refl (k.dirs g);
+    dirs = λ g. dir_kept d.count e.count g (dir_view d g) (dir_view e g) (t.dirs g) (t.dirs g) (t.descents g) (t.descents g) m.framed.count
+        (dir_view_same d e g same_dirs (slots_keep (λ (p : Slot). is_dir g p.main) (ap (λ (p : Slot). is_dir g p.main) m.slot ∙ sym (no_dir g (slot_at d b x) was_bare)))) refl refl (k.dirs g);
     locks = λ i key l. lock_kept i key (holders d i key) (holders e i key) p (ap (λ h. h key) (m.framed.locks i)) (k.locks i key (within i l));
     housed = λ y i l h. ap is_some (same_dirs i y.0) ∙ slot_housed i y (within i l) h;
     roots = λ i l. ap is_some (same_dirs i root) ∙ k.roots i (within i l);

@@ -21,6 +21,7 @@ use Rattle.dht_section.specs.Locks.{LockInvariant}
 use Rattle.dht_invariant.specs.Laws.{DeathsAreTransitions}
 use Rattle.dht_invariant.specs.Transition.{Transition, FreesClient}
 use Rattle.dht_invariant.proofs.Basics.{not_true}
+use Rattle.dht_invariant.proofs.CountedLaws.{counted_ended}
 use Rattle.dht_section.proofs.EarlyLaws.{nat_cases}
 use Rattle.dht_invariant.proofs.LineKeeps.{places_less, line_keeps}
 use Rattle.dht_invariant.proofs.QuietKeeps.{SameStores, at_most, used_same, transition_same}
@@ -72,7 +73,7 @@ module _ (c : ClientNo) (d e : Disk) (s : History) (p : ℕ → Claim) (k : Inva
   ]
 
   pub death_transition : Transition c.0 d s p e (with_line s (Died c)) (put nat_eq p c.0 no_claim)
-  death_transition = transition_same d e stores s (with_line s (Died c)) (line_keeps s (Died c) refl refl refl (at_most _ _ refl))
+  death_transition = transition_same d e stores s (with_line s (Died c)) (line_keeps s (Died c) refl refl refl (at_most _ _ refl) (λ q. counted_ended s (with_line s (Died c)) c.0 q refl refl refl))
       c.0 p (put nat_eq p c.0 no_claim) h.elsewhere (places_less p c.0 no_claim (λ f b. omega arith)) locks others_hold
       (λ w ne. put_other nat_eq exact_nat p c.0 no_claim w ne) (λ w ne. put_other nat_eq exact_nat s.pending c.0 None w ne) fresh k now
 

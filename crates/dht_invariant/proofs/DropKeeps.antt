@@ -38,7 +38,7 @@ use Rattle.dht_invariant.proofs.Basics.{gfid_cases, other_some, true_false}
 use Rattle.dht_section.proofs.EarlyLaws.{nat_cases, here_off}
 use Rattle.dht_invariant.proofs.ClauseLocality.{reach_of, answer_changes}
 use Rattle.dht_invariant.proofs.Frames.{brick_by, brick_is, kept_by}
-use Rattle.dht_invariant.proofs.NoMoreLaws.{StoresNoMore, early_no_more, used_no_more, file_used_kept, sealed_kept, opened_kept, taken_touches, no_dir_named, things_no_more}
+use Rattle.dht_invariant.proofs.NoMoreLaws.{StoresNoMore, early_no_more, used_no_more, file_used_kept, sealed_kept, opened_kept, taken_touches, no_dir_named, no_node_named, things_no_more}
 use Rattle.dht_invariant.proofs.ServedLaws.{within_done, others_hold}
 use Rattle.dht_invariant.proofs.ShapeLaws.{live_is, live_shape}
 
@@ -59,7 +59,7 @@ module _ (s t : Scene) (b : BrickNo) (f : Gfid) (r : Reply) (m : Guarantee s (re
   store_now = ap (λ (c : Contents). c.store) left.2 ∙ row.store
 
   tree : t.history.tree ≡ s.history.tree
-  tree = m.tree ∙ ap (λ (x : Reply). tree_by (step_of (OnFile (Drop f)) x) s.history.tree) real
+  tree = m.tree ∙ ap (λ (x : Reply). tree_by (step_of b.0 (OnFile (Drop f)) x) s.history.tree) real
 
   stays : {X : Type 0} (g : Contents → X) → g m.new ≡ g (s.disk.brick b.0) → (i : ℕ) → g (t.disk.brick i) ≡ g (s.disk.brick i)
   stays g same i = kept_by g s.disk t.disk b.0 m.new m.disk same i
@@ -160,7 +160,7 @@ module _ (s t : Scene) (b : BrickNo) (f : Gfid) (r : Reply) (m : Guarantee s (re
   ]
 
   used_before : (g : Gfid) → Used t.disk t.history.tree g → Used s.disk s.history.tree g
-  used_before g = used_no_more s.disk t.disk stores s.history.tree t.history.tree g (ap (λ (u : Tree). u.bytes g) tree) (ap (λ (u : Tree). u.dirs g) tree) (sealed_same g)
+  used_before g = used_no_more s.disk t.disk stores s.history.tree t.history.tree g (ap (λ (u : Tree). u.bytes g) tree) (ap (λ (u : Tree). u.dirs g) tree) (ap (λ (u : Tree). u.descents g) tree) (sealed_same g)
 
   pub drop_leaves : Preserves s t
   drop_leaves = record {
@@ -170,8 +170,8 @@ module _ (s t : Scene) (b : BrickNo) (f : Gfid) (r : Reply) (m : Guarantee s (re
           | inl q ↦ inr (subst (FileClause t.disk t.history.tree (most_hops t.history) s.claims) (sym q) file_now)
           | inr ne ↦ inl (other_file g ne)
         ])
-        (no_dir_named (reach_of s ask) b.0 s.disk t.disk refl refl refl) no_lock sound.kept.things;
-    early = early_no_more s.disk t.disk stores s.history t.history m.run (λ i. ap (λ (o : Opens). o.registered) (opens_stay i)) used_before sound.early;
+        (λ g. (no_dir_named (reach_of s ask) b.0 s.disk t.disk refl refl refl g, no_node_named (reach_of s ask) s.history.tree refl g)) no_lock sound.kept.things;
+    early = early_no_more s.disk t.disk stores s.history t.history m.run m.weights (λ i. ap (λ (o : Opens). o.registered) (opens_stay i)) used_before sound.early;
     used = used_before;
     touches = taken_touches s t.disk t.history.tree (record {
       stores = stores;
@@ -182,6 +182,7 @@ module _ (s t : Scene) (b : BrickNo) (f : Gfid) (r : Reply) (m : Guarantee s (re
         | inr ne ↦ inr (files_stay g ne)
       ];
       dirs = λ g. ap (λ (u : Tree). u.dirs g) tree;
+      descents = λ g. ap (λ (u : Tree). u.descents g) tree;
       used = used_after;
       sealed = λ g h. sealed_same g ∙ h;
     });

@@ -1,8 +1,8 @@
 -- What follows of names and files while calls only look for files, make them and unlink them.
 use Rattle.std.proofs.Common.{◌≡◌, ◌<◌, ◌≤◌, ℕ, false, refl, sym, ap, ◌∙◌, subst, inl, inr, ◌⊎◌}
-use Rattle.std.specs.Prelude.{Option, Some, None, is_some}
+use Rattle.std.specs.Prelude.{Option, Some, None}
 use Rattle.std.specs.FinMap.{contains_key}
-use Rattle.dht_types.specs.Gfid.{Entry, root, run_of}
+use Rattle.dht_types.specs.Gfid.{Entry, run_of}
 use Rattle.dht_types.specs.History.{History}
 use Rattle.dht_types.specs.declared.identifiers.Gfid.{Gfid}
 use Rattle.dht_types.specs.declared.stored.Main.{Main}
@@ -11,16 +11,14 @@ use Rattle.dht_types.specs.declared.stored.Slot.{Slot}
 use Rattle.dht_types.specs.declared.stored.Record.{Record}
 use Rattle.dht_hash.specs.DaviesMeyer.{dm}
 use Rattle.dht_xattr.specs.Layout.{holder}
-use Rattle.dht_brick.specs.Parts.{is_dir}
 use Rattle.dht_brick.specs.declared.opens.Registration.{Registration}
 use Rattle.dht_section.specs.Disk.{Disk, file_of_main, file_in, slot_at, name_at, file_at, dir_at, range_of, holder_of}
 use Rattle.dht_section.specs.Truth.{plain}
 use Rattle.dht_section.specs.Early.{Early, IsPlain, IsUnmoved}
 use Rattle.dht_section.specs.Invariant.{Used}
 use Rattle.dht_section.specs.Views.{visible, core}
-use Rattle.dht_section.proofs.EarlyLaws.{core_file}
-use Rattle.dht_invariant.proofs.Frames.{dir_core}
-use Rattle.dht_invariant.proofs.LayoutLaws.{layout_same}
+use Rattle.dht_section.proofs.EarlyLaws.{core_file, core_folder}
+use Rattle.dht_invariant.proofs.LayoutLaws.{layout_same, planned_same}
 
 -- ---- a slot without its linkto
 
@@ -40,22 +38,17 @@ HasNone p = p ≡ core p
 
 -- a slot is plain by its core
 pub plain_as : (p q : Slot) → core q ≡ core p → IsPlain p → IsPlain q
-plain_as p q same h = elim h [
-  | inl e ↦ inl (same ∙ e)
-  | inr e ↦ inr (e.0, core_file q e.0 (same ∙ ap core e.1))
-]
-
--- and is no directory's
-pub is_no_dir : (p : Slot) (g : Gfid) → IsPlain p → is_dir g p.main ≡ false
-is_no_dir p g (inl e) = dir_core g p ∙ ap (λ (x : Slot). is_dir g x.main) e
-is_no_dir p g (inr e) = ap (λ (x : Slot). is_dir g x.main) e.1
+plain_as p q same (inl e) = inl (same ∙ e)
+plain_as p q same (inr (inl e)) = inr (inl (e.0, core_file q e.0 (same ∙ ap core e.1)))
+plain_as p q same (inr (inr e)) = inr (inr (e.0, core_folder q e.0 (same ∙ ap core e.1)))
 
 -- ---- what holds for now stays
 
--- in the same run, no brick has another record of a directory, or more registrations
+-- in the same run and with the same weights, no brick has another record of a directory, or more registrations
 pub record SameDirs (d e : Disk) (s t : History) : Type 0 where
   pub count : e.count ≡ d.count
   pub run : t.run ≡ s.run
+  pub weights : t.weights ≡ s.weights
   pub dirs : (b : ℕ) (g : Gfid) → dir_at e b g ≡ dir_at d b g
   pub unopened : (b : ℕ) (r : Registration)
       → contains_key (d.brick b).opens.registered r ≡ false → contains_key (e.brick b).opens.registered r ≡ false
@@ -73,13 +66,12 @@ module _ (d e : Disk) (s t : History) (m : SameDirs d e s t) (k : Early d s) whe
     plain = λ x b l. plain x b (within b l);
     unmoved = λ f b r l. unmoved f b r (within b l);
     unopened = λ b r l. m.unopened b r (k.unopened b r (within b l));
-    covered = λ n. ap is_some (holders_same (root, n)) ∙ k.covered n;
+    planned = λ g first. planned_same d e g s.weights t.weights m.count m.weights (λ b. m.dirs b g) (k.planned g (sym m.run ∙ first));
     held = λ x b f first l h. holders_same x ∙ elim (named x b f (within b l) h) [
       | inl q ↦ k.held x b f (sym m.run ∙ first) (within b l) q
       | inr q ↦ q
     ];
     unlinked = λ x b first l. none x b (sym m.run ∙ first) (within b l);
-    alone = λ b g l. ap is_some (m.dirs b g) ∙ k.alone b g (within b l);
     earlier = λ g u. subst (λ (n : ℕ). run_of g ≤ n) (sym m.run) (elim (used g u) [
       | inl q ↦ k.earlier g q
       | inr q ↦ q

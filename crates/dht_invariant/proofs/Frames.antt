@@ -4,7 +4,7 @@ use Rattle.std.specs.Prelude.{Option, Some, None, nat_eq, is_some, ◌||◌, Lis
 use Rattle.std.specs.Option.{option_map}
 use Rattle.dht_types.proofs.PutLaws.{put_elim, put_same, exact_nat}
 use Rattle.dht_types.specs.Gfid.{Entry, anchor}
-use Rattle.dht_types.specs.Tree.{Tree, Node}
+use Rattle.dht_types.specs.Tree.{Tree, Node, Descent}
 use Rattle.dht_types.specs.declared.identifiers.Gfid.{Gfid}
 use Rattle.dht_types.specs.declared.locks.Key.{Key}
 use Rattle.dht_types.specs.declared.locks.Mode.{Mode}
@@ -19,7 +19,7 @@ use Rattle.dht_section.specs.Claims.{Claim}
 use Rattle.dht_section.specs.Disk.{Disk, slot_at, file_at, dir_at, ChangesOneBrick}
 use Rattle.dht_section.specs.Dirs.{DirInvariant}
 use Rattle.dht_section.specs.Files.{FileInvariant}
-use Rattle.dht_section.specs.Invariant.{Used, ByBytes, ByDir, ByRecord, ByCopy, BySeal}
+use Rattle.dht_section.specs.Invariant.{Used, ByBytes, ByDir, ByDescent, ByRecord, ByCopy, BySeal}
 use Rattle.dht_section.specs.Locks.{LockInvariant}
 use Rattle.dht_invariant.proofs.Basics.{is_there}
 use Rattle.dht_section.specs.Names.{NameInvariant}
@@ -98,9 +98,10 @@ file_kept m n low top places v w t u count view bytes l h =
     (subst (λ (x : FileView). FileInvariant m top places x u) (sym view)
     (subst (λ (y : Option (List ℕ)). FileInvariant m top places v y) (sym bytes) (file_low m low top places v t l h)))
 
-pub dir_kept : (m n : ℕ) (g : Gfid) (v w : DirView) (t u : Bool) → n ≡ m → w ≡ v → u ≡ t → DirInvariant m g v t → DirInvariant n g w u
-dir_kept m n g v w t u count view is h =
-    subst (λ (c : ℕ). DirInvariant c g w u) (sym count) (subst (λ (x : DirView). DirInvariant m g x u) (sym view) (subst (λ (y : Bool). DirInvariant m g v y) (sym is) h))
+pub dir_kept : (m n : ℕ) (g : Gfid) (v w : DirView) (t u : Bool) (x y : Option Descent) → n ≡ m → w ≡ v → u ≡ t → y ≡ x → DirInvariant m g v t x → DirInvariant n g w u y
+dir_kept m n g v w t u x y count view is descent h =
+    subst (λ (c : ℕ). DirInvariant c g w u y) (sym count) (subst (λ (i : DirView). DirInvariant m g i u y) (sym view)
+    (subst (λ (i : Bool). DirInvariant m g v i y) (sym is) (subst (λ (i : Option Descent). DirInvariant m g v t i) (sym descent) h)))
 
 pub lock_kept : (b : ℕ) (key : Key) (old new : ℕ → Option Mode) (claims : ℕ → Claim) → new ≡ old → LockInvariant b key old claims → LockInvariant b key new claims
 lock_kept b key old new claims e h = subst (λ (x : ℕ → Option Mode). LockInvariant b key x claims) (sym e) h
@@ -119,14 +120,15 @@ dir_view_same d e g dirs mains =
     λ j. record { copies = λ i. dirs i g j; mains = λ i x. mains i x j; depths = λ i p. option_map (λ (r : DirRecord). r.depth) (dirs i p j) }
 
 -- what was used stays so where records, directories and the tree's files do
-pub used_kept : (d e : Disk) (t u : Tree) (g : Gfid) → e.count ≡ d.count → (t.bytes g ≢ None → u.bytes g ≢ None) → (t.dirs g ≡ true → u.dirs g ≡ true) → ((i : ℕ) → is_some (file_at d i g) ≡ true → is_some (file_at e i g) ≡ true) → ((i : ℕ) → is_some (dir_at d i g) ≡ true → is_some (dir_at e i g) ≡ true) → (view_of e g).sealed ≡ (view_of d g).sealed → Used d t g → Used e u g
-used_kept d e t u g count bytes dirs files copies sealed (ByBytes h) = ByBytes (bytes h)
-used_kept d e t u g count bytes dirs files copies sealed (ByDir h) = ByDir (dirs h)
-used_kept d e t u g count bytes dirs files copies sealed (ByRecord b r l h) =
+pub used_kept : (d e : Disk) (t u : Tree) (g : Gfid) → e.count ≡ d.count → (t.bytes g ≢ None → u.bytes g ≢ None) → (t.dirs g ≡ true → u.dirs g ≡ true) → (t.descents g ≢ None → u.descents g ≢ None) → ((i : ℕ) → is_some (file_at d i g) ≡ true → is_some (file_at e i g) ≡ true) → ((i : ℕ) → is_some (dir_at d i g) ≡ true → is_some (dir_at e i g) ≡ true) → (view_of e g).sealed ≡ (view_of d g).sealed → Used d t g → Used e u g
+used_kept d e t u g count bytes dirs descents files copies sealed (ByBytes h) = ByBytes (bytes h)
+used_kept d e t u g count bytes dirs descents files copies sealed (ByDir h) = ByDir (dirs h)
+used_kept d e t u g count bytes dirs descents files copies sealed (ByDescent h) = ByDescent (descents h)
+used_kept d e t u g count bytes dirs descents files copies sealed (ByRecord b r l h) =
     let q = is_there (file_at e b g) (files b (ap is_some h)) in
     ByRecord b q.0 (subst (λ (c : ℕ). b < c) (sym count) l) q.1
-used_kept d e t u g count bytes dirs files copies sealed (ByCopy b l h) = ByCopy b (subst (λ (c : ℕ). b < c) (sym count) l) (copies b h)
-used_kept d e t u g count bytes dirs files copies sealed (BySeal h) = BySeal (sealed ∙ h)
+used_kept d e t u g count bytes dirs descents files copies sealed (ByCopy b l h) = ByCopy b (subst (λ (c : ℕ). b < c) (sym count) l) (copies b h)
+used_kept d e t u g count bytes dirs descents files copies sealed (BySeal h) = BySeal (sealed ∙ h)
 
 -- what is used as a file's is used
 pub file_is_used : (d : Disk) (t : Tree) (f : Gfid) → IsFileUsed d t f → Used d t f

@@ -1,5 +1,5 @@
 -- The same ranges on all bricks are the same layout; and a holder stays the holder where there are more bricks.
-use Rattle.std.proofs.Common.{◌≡◌, ◌<◌, ◌≤◌, ℕ, Bool, List, refl, ap, ◌∙◌, inl, inr, arith}
+use Rattle.std.proofs.Common.{◌≡◌, ◌<◌, ◌≤◌, ℕ, Bool, List, refl, sym, ap, ◌∙◌, subst, inl, inr, arith}
 use Rattle.std.proofs.Common.{length-append}
 use Rattle.std.specs.Prelude.{zero, suc, Option, Some, None, [], ◌∷◌, ◌++◌}
 use Rattle.std.specs.List.{position_or_len}
@@ -11,7 +11,8 @@ use Rattle.dht_xattr.proofs.LayoutLaws.{first_place}
 use Rattle.dht_xattr.specs.Layout.{holder}
 use Rattle.dht_xattr.specs.Range.{contains}
 use Rattle.dht_xattr.specs.declared.range.Range.{Range}
-use Rattle.dht_section.specs.Disk.{Disk, range_at, ranges_below, layout_of}
+use Rattle.dht_section.specs.Disk.{Disk, dir_at, range_at, ranges_below, layout_of}
+use Rattle.dht_section.specs.Planned.{AllPlanned}
 use Rattle.dht_invariant.proofs.Basics.{true_false}
 use Rattle.dht_section.proofs.EarlyLaws.{nat_cases}
 
@@ -22,6 +23,10 @@ below_same d e g (suc n) h = ap (λ xs. xs ++ range_at e g n ∷ []) (below_same
 
 pub layout_same : (d e : Disk) (g : Gfid) → e.count ≡ d.count → ((b : ℕ) → range_at e g b ≡ range_at d g b) → layout_of e g ≡ layout_of d g
 layout_same d e g c h = ap (ranges_below e g) c ∙ below_same d e g d.count (λ b l. h b)
+
+-- where records and weights are the same, ranges that are all planned stay so
+pub planned_same : (d e : Disk) (g : Gfid) (ws new : List ℕ) → e.count ≡ d.count → new ≡ ws → ((b : ℕ) → dir_at e b g ≡ dir_at d b g) → AllPlanned d ws g → AllPlanned e new g
+planned_same d e g ws new c w same h = subst (λ (x : List ℕ). AllPlanned e x g) (sym w) (λ b r l there. h b r (subst (λ (n : ℕ). b < n) c l) (sym (same b) ∙ there))
 
 -- a holder is the holder with more ranges behind
 holder_first : (hash b : ℕ) (xs ys : List (Option Range)) → holder xs hash ≡ Some b → holder (xs ++ ys) hash ≡ Some b

@@ -1,7 +1,18 @@
 pub mod Basics
+pub mod CountedLaws
 pub mod ContentsLaws
 pub mod EarlyLaws
 pub mod LayoutLaws
+pub mod FolderLaws
+pub mod NodeLaws
+pub mod DirLaws
+pub mod DirRows
+pub mod DirKeeps
+pub mod DropDirKeeps
+pub mod MakeDirKeeps
+pub mod DirRequests
+pub mod PlannedLaws
+pub mod LayoutKeeps
 pub mod GrowsLaws
 pub mod LessLaws
 pub mod OwnLaws
@@ -32,5 +43,6 @@ pub mod NoMoreLaws
 pub mod ShapeLaws
 pub mod SealKeeps
 pub mod DropKeeps
+pub mod UndoneKeeps
 pub mod UnlinkKeeps
 pub mod RemovalKeeps

@@ -4,6 +4,7 @@ use Rattle.std.specs.Prelude.{nat_eq}
 use Rattle.dht_types.proofs.PutLaws.{put_elim, put_same, put_other, exact_nat}
 use Rattle.dht_types.proofs.HistoryLaws.{past_with_line, point_with_line}
 use Rattle.dht_types.specs.Put.{put}
+use Rattle.dht_types.specs.Counted.{CallsCounted}
 use Rattle.dht_types.specs.Tree.{Tree}
 use Rattle.dht_types.specs.History.{History, IsOwn, tells, with_line}
 use Rattle.dht_types.specs.declared.identifiers.CallNo.{CallNo}
@@ -27,7 +28,7 @@ places_less p c new h f b w = put_elim (λ (x : Claim). place_in x.copy f b ≤ 
 pub claims_are_transitions : ClaimsAreTransitions
 claims_are_transitions c d s p new k now may =
     transition_same d d (same_stores d) s s
-    (record { tree = refl; weights = refl; run = refl; calls = at_most _ _ refl; later = at_most _ _ refl; past = λ j l. refl; point = k.point })
+    (record { tree = refl; weights = refl; run = refl; calls = at_most _ _ refl; counts = λ h. h; later = at_most _ _ refl; past = λ j l. refl; point = k.point })
     c p (put nat_eq p c new) (λ b l. refl) (places_less p c new may.copy) locks (λ b key w ne. refl)
     (λ w ne. put_other nat_eq exact_nat p c new w ne) (λ w ne. refl) k.fresh k now
   where
@@ -43,12 +44,13 @@ claims_are_transitions c d s p new k now may =
     }
 
 -- one more line, of which this is known, keeps the history
-pub line_keeps : (s : History) (x : Line) → (tells s x).tree ≡ s.tree → (tells s x).weights ≡ s.weights → (tells s x).run ≡ s.run → s.calls ≤ (tells s x).calls → SameHistory s (with_line s x)
-line_keeps s x tree weights run calls = record {
+pub line_keeps : (s : History) (x : Line) → (tells s x).tree ≡ s.tree → (tells s x).weights ≡ s.weights → (tells s x).run ≡ s.run → s.calls ≤ (tells s x).calls → (CallsCounted s → CallsCounted (with_line s x)) → SameHistory s (with_line s x)
+line_keeps s x tree weights run calls counts = record {
   tree = tree;
   weights = weights;
   run = run;
   calls = calls;
+  counts = counts;
   later = omega arith;
   past = past_with_line s x;
   point = point_with_line s x;
@@ -56,7 +58,7 @@ line_keeps s x tree weights run calls = record {
 
 pub lines_are_transitions : LinesAreTransitions
 lines_are_transitions c d s p x k now h =
-    transition_same d d (same_stores d) s (with_line s x) (line_keeps s x h.tree h.weights h.run h.calls)
+    transition_same d d (same_stores d) s (with_line s x) (line_keeps s x h.tree h.weights h.run h.calls h.counts)
     c p p (λ b l. refl) (λ f b w. at_most _ _ refl) k.things.locks (λ b key w ne. refl) (λ w ne. refl) h.pending fresh k now
   where
     fresh : NothingUsed d (with_line s x)

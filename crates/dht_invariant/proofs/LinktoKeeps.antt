@@ -222,10 +222,10 @@ module _ (s t : Scene) (b : BrickNo) (q : NameRequest) (r : Reply) (h : IsOfLink
       by None e = sym (ap is_some e) ∙ sound.kept.things.housed x i l (λ z. ne (same e ∙ z))
       by (Some rec) e = refl
 
-  no_step : (x : Reply) → step_of (OnNames q) x ≡ None
+  no_step : (x : Reply) → step_of b.0 (OnNames q) x ≡ None
   no_step x = by q h x
     where
-      by : (p : NameRequest) → IsOfLinkto p → (y : Reply) → step_of (OnNames p) y ≡ None
+      by : (p : NameRequest) → IsOfLinkto p → (y : Reply) → step_of b.0 (OnNames p) y ≡ None
       by (MakeLinkto d n value) k (Carried given) = refl
       by (DropLinkto d n) k (Carried given) = refl
       by p k (Carried given) = absurd k
@@ -246,8 +246,8 @@ module _ (s t : Scene) (b : BrickNo) (q : NameRequest) (r : Reply) (h : IsOfLink
             (λ i x. plain_core f (slot_at t.disk i x).main ∙ (ap (λ (p : Slot). is_plain f p.main) (cores_stay i x) ∙ sym (plain_core f (slot_at s.disk i x).main)))
             (λ i x. ap (λ (p : Slot). is_copy f p.standby) (cores_stay i x)))
             refl (omega arith) (k.files f);
-        dirs = λ g. dir_kept s.disk.count t.disk.count g (dir_view s.disk g) (dir_view t.disk g) (s.history.tree.dirs g) (s.history.tree.dirs g) m.disk.count
-            (dir_view_same s.disk t.disk g dirs_stay (λ i x. dir_core g (slot_at t.disk i x) ∙ (ap (λ (p : Slot). is_dir g p.main) (cores_stay i x) ∙ sym (dir_core g (slot_at s.disk i x))))) refl (k.dirs g);
+        dirs = λ g. dir_kept s.disk.count t.disk.count g (dir_view s.disk g) (dir_view t.disk g) (s.history.tree.dirs g) (s.history.tree.dirs g) (s.history.tree.descents g) (s.history.tree.descents g) m.disk.count
+            (dir_view_same s.disk t.disk g dirs_stay (λ i x. dir_core g (slot_at t.disk i x) ∙ (ap (λ (p : Slot). is_dir g p.main) (cores_stay i x) ∙ sym (dir_core g (slot_at s.disk i x))))) refl refl (k.dirs g);
         locks = λ i key l. lock_kept i key (holders s.disk i key) (holders t.disk i key) s.claims (ap (λ (x : Locks). x key) (framed.locks i)) (k.locks i key (within_count i l));
         housed = λ x i l ne. ap is_some (dirs_stay i x.0) ∙ housed x i (within_count i l) ne;
         roots = λ i l. ap is_some (dirs_stay i root) ∙ k.roots i (within_count i l);
@@ -280,6 +280,7 @@ module _ (s t : Scene) (b : BrickNo) (q : NameRequest) (r : Reply) (h : IsOfLink
     owns = λ g e. (let z : None ≡ Some g = e in cc);
     names = λ y ne. ap (λ (u : Tree). u.names y) tree;
     dirs = λ g. ap (λ (u : Tree). u.dirs g) tree;
+    descents = λ g. ap (λ (u : Tree). u.descents g) tree;
     bytes = λ g k none. k (sym (ap (λ (u : Tree). u.bytes g) tree) ∙ none);
     recorded = λ i g k. ap is_some (files_stay i g) ∙ k;
     unnamed = λ g k. (
@@ -292,6 +293,7 @@ module _ (s t : Scene) (b : BrickNo) (q : NameRequest) (r : Reply) (h : IsOfLink
   used_before g = used_kept t.disk s.disk t.history.tree s.history.tree g (sym m.disk.count)
       (λ k none. k (ap (λ (u : Tree). u.bytes g) tree ∙ none))
       (λ k. ap (λ (u : Tree). u.dirs g) (sym tree) ∙ k)
+      (λ k none. k (ap (λ (u : Tree). u.descents g) tree ∙ none))
       (λ i k. ap is_some (sym (files_stay i g)) ∙ k)
       (λ i k. ap is_some (sym (dirs_stay i g)) ∙ k)
       (sym (sealed_kept s.disk t.disk g m.disk.count framed.opens))
@@ -316,7 +318,7 @@ module _ (s t : Scene) (b : BrickNo) (q : NameRequest) (r : Reply) (h : IsOfLink
 
   early : Early t.disk t.history
   early = early_on s.disk t.disk s.history t.history
-      (record { count = m.disk.count; run = m.run; dirs = dirs_stay; unopened = λ i o k. ap (λ (x : Opens). contains_key x.registered o) (framed.opens i) ∙ k }) sound.early
+      (record { count = m.disk.count; run = m.run; weights = m.weights; dirs = dirs_stay; unopened = λ i o k. ap (λ (x : Opens). contains_key x.registered o) (framed.opens i) ∙ k }) sound.early
       (λ x i l. plain_as (slot_at s.disk i x) (slot_at t.disk i x) (cores_stay i x) (sound.early.plain x i l))
       none_linked
       (λ f i o l e. sound.early.unmoved f i o l (sym (files_stay i f) ∙ e))

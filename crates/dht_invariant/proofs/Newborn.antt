@@ -1,14 +1,13 @@
 -- New bricks meet the invariant.
-use Rattle.std.proofs.Common.{◌≡◌, ◌≢◌, ◌<◌, ◌≤◌, ◌+◌, ◌*◌, ℕ, false, List, [], ◌∷◌, ◌++◌, refl, sym, ap, ◌∙◌, subst, inl, inr, length, arith}
-use Rattle.std.specs.Prelude.{zero, suc, Option, Some, None, IfSome, unwrap_or, is_some, take, map, count_by, slice_index_or}
-use Rattle.std.proofs.Math.Seq.{take-suc}
-use Rattle.std.proofs.lemmas.List.{take_all}
+use Rattle.std.proofs.Common.{◌≡◌, ◌≢◌, ◌<◌, ◌≤◌, ◌+◌, ◌*◌, ℕ, false, List, [], ◌∷◌, refl, sym, ap, ◌∙◌, subst, inl, inr, length, arith}
+use Rattle.std.specs.Prelude.{Bool, true, if◌then◌else◌, Option, Some, None, IfSome, unwrap_or, is_some, map, count_by, slice_index_or}
 use Rattle.std.proofs.lemmas.Bool.{cases_lt}
 use Rattle.std.specs.FinMap.{contains_key, empty, entries, get-empty, len-entries, len-empty}
 use Rattle.dht_types.proofs.PutLaws.{exact_gfid}
 use Rattle.dht_types.proofs.HistoryLaws.{point_with_line}
 use Rattle.dht_types.specs.Gfid.{Entry, root, home, same_gfid, anchor, run_of}
-use Rattle.dht_types.specs.Tree.{first_tree}
+use Rattle.dht_types.proofs.TreeLaws.{first_is_tree}
+use Rattle.dht_types.specs.Tree.{of_root, first_tree, depth_in}
 use Rattle.dht_types.specs.History.{with_line, start, IsOwn}
 use Rattle.dht_types.specs.declared.identifiers.Gfid.{Gfid}
 use Rattle.dht_types.specs.declared.identifiers.ClientNo.{ClientNo}
@@ -20,21 +19,19 @@ use Rattle.dht_types.specs.declared.stored.Slot.{Slot}
 use Rattle.dht_types.specs.declared.lines.Line.TheVariants.{Volume}
 use Rattle.dht_xattr.proofs.RangeLaws.{decoded_encoded}
 use Rattle.dht_xattr.specs.Plan.{IsPlanned, planned, planned_value, value_of}
-use Rattle.dht_xattr.proofs.PlanLaws.{planned_length, planned_valid, planned_holder}
-use Rattle.dht_xattr.specs.Layout.{holder}
-use Rattle.dht_hash.specs.DaviesMeyer.{dm}
-use Rattle.dht_hash.proofs.DaviesMeyerLaws.{dm_below}
+use Rattle.dht_xattr.proofs.PlanLaws.{planned_length, planned_valid}
 use Rattle.dht_xattr.specs.declared.range.Range.{Range}
 use Rattle.dht_brick.specs.Contents.{Contents, newborn, slot, dir, file, bare, no_opens, gfid_cmp, entry_cmp, registration_cmp}
 use Rattle.dht_brick.specs.declared.opens.Registration.{Registration}
 use Rattle.dht_brick.specs.OpenRows.{registrations, is_sealed}
 use Rattle.dht_brick.specs.Parts.{is_copy, is_dir}
 use Rattle.dht_section.specs.Claims.{places_of}
-use Rattle.dht_section.specs.Disk.{Disk, file_in, slot_at, name_at, file_at, dir_at, range_of_value, range_of, range_at, ranges_below, layout_of, holders}
+use Rattle.dht_section.specs.Disk.{Disk, file_in, slot_at, name_at, file_at, dir_at, range_of_value, range_of, range_at, holders}
 use Rattle.dht_section.specs.Early.{Early}
 use Rattle.dht_section.specs.Files.{FileInvariant}
-use Rattle.dht_section.specs.Invariant.{Invariant, Things, Used, ByBytes, ByDir, ByRecord, ByCopy, BySeal}
+use Rattle.dht_section.specs.Invariant.{Invariant, Things, Used, ByBytes, ByDir, ByDescent, ByRecord, ByCopy, BySeal}
 use Rattle.dht_section.specs.Locks.{LockInvariant}
+use Rattle.dht_section.specs.Planned.{bounds}
 use Rattle.dht_section.specs.Shapes.{Bare, Gone, body}
 use Rattle.dht_section.specs.Views.{core, links_to, view_of}
 use Rattle.dht_types.specs.Volume.{HasWeight}
@@ -67,14 +64,6 @@ range_back : (o : Option Range) → IfSome o IsPlanned → range_of_value (value
 unfolding range_of_value
 range_back None h = refl
 range_back (Some r) h = decoded_encoded r h.range.committed h.range.ordered h.range.below
-
-below_taken : (d : Disk) (g : Gfid) (xs : List (Option Range)) (n : ℕ) → n ≤ length xs → ((b : ℕ) → b < n → range_at d g b ≡ slice_index_or xs b None) → ranges_below d g n ≡ take n xs
-unfolding ranges_below
-below_taken d g xs zero l h = refl
-below_taken d g xs (suc n) l h =
-    ap (λ ys. ys ++ range_at d g n ∷ []) (below_taken d g xs n (omega arith) (λ b k. h b (omega arith)))
-    ∙ (ap (λ x. take n xs ++ x ∷ []) (h n (omega arith))
-    ∙ sym (take-suc xs n None (omega arith)))
 
 no_length : {A : Type 0} (xs : List A) → length xs ≡ 0 → xs ≡ []
 no_length [] e = refl
@@ -157,11 +146,18 @@ module _ (ws : List ℕ) (d : Disk) (new : AreNew ws d) (some : 0 < d.count) whe
     no_name = λ b x g l. ap (λ (s : Slot). is_dir g s.main) (no_slot b x l);
   }
 
+  root_descends : (g : Gfid) → g ≡ root → first_tree.descents g ≡ Some of_root
+  root_descends g e = ap (λ (v : Bool). if v then Some of_root else None) ((exact_gfid g root).1 e)
+
+  descended : (g : Gfid) (v : Bool) → same_gfid g root ≡ v → (if v then Some of_root else None) ≢ None → g ≡ root
+  descended g true e some = (exact_gfid g root).0 e
+  descended g false e some = absurd (some refl)
+
   things_new : (top : ℕ) → Things d first_tree top no_claims
   things_new top = record {
     names = λ x. (Bare, record { fits = tt; has = λ b l. ap core (no_slot b x l); node = refl });
     files = λ f. file_new f top;
-    dirs = λ g. dir_alone d root_alone g (same_gfid g root) (root_home g);
+    dirs = λ g. dir_alone d root_alone g (same_gfid g root) (first_tree.descents g) (root_home g) (λ e. ap depth_in (root_descends g e));
     locks = lock_new;
     housed = λ x b l ne. absurd (ne (no_slot b x l));
     roots = λ b l. root_at b root l;
@@ -171,6 +167,7 @@ module _ (ws : List ℕ) (d : Disk) (new : AreNew ws d) (some : 0 < d.count) whe
   only_root : (g : Gfid) → Used d first_tree g → g ≡ root
   only_root g (ByBytes h) = absurd (h refl)
   only_root g (ByDir h) = (exact_gfid g root).0 h
+  only_root g (ByDescent h) = descended g (same_gfid g root) refl h
   only_root g (ByRecord b r l h) = absurd (none_some (file_at d b g) r (no_file b g l) h)
   only_root g (ByCopy b l h) = (exact_gfid g root).0 (sym (root_at b g l) ∙ h)
   only_root g (BySeal h) = absurd (true_false (view_of d g).sealed h (no_seal g))
@@ -188,11 +185,12 @@ module _ (ws : List ℕ) (d : Disk) (new : AreNew ws d) (some : 0 < d.count) whe
       ap (λ (c : Contents). range_of (dir c.store root)) (new.contents b l)
       ∙ (ap range_of (root_first (value_of o)) ∙ range_back o (planned_valid ws root heavy b None (omega arith)))
 
-  planned_new : HasWeight ws → d.count ≡ length ws → layout_of d root ≡ planned ws root
-  planned_new heavy count =
-      let size = planned_length ws root in
-      below_taken d root (planned ws root) d.count (omega arith) (range_new heavy count)
-      ∙ take_all d.count (planned ws root) (omega arith)
+  -- each record is the root's, with the planned range
+  planned_at : HasWeight ws → d.count ≡ length ws → (g : Gfid) (b : ℕ) (r : DirRecord) → b < d.count → dir_at d b g ≡ Some r → range_of (Some r) ≡ slice_index_or (planned ws g) b None
+  planned_at heavy count g b r l h =
+      let at_root : g ≡ root = (exact_gfid g root).0 (sym (root_at b g l) ∙ ap is_some h) in
+      ap range_of (sym h) ∙ (ap (λ (x : Gfid). range_at d x b) at_root
+      ∙ (range_new heavy count b l ∙ ap (λ (x : Gfid). slice_index_or (planned ws x) b None) (sym at_root)))
 
   pub new_invariant : HasWeight ws → d.count ≡ length ws → d.count ≤ 32 → Invariant d (with_line start (Volume ws)) no_claims
   new_invariant heavy count few = record {
@@ -201,6 +199,14 @@ module _ (ws : List ℕ) (d : Disk) (new : AreNew ws d) (some : 0 < d.count) whe
     some_brick = some;
     counted = count;
     few = few;
+    tree = first_is_tree;
+    counts = record {
+      listed = λ c r e. absurd (let z : None ≡ Some r = e in cc);
+      calling = λ c l. absurd l;
+      numbered = λ c r e. absurd (let z : None ≡ Some r = e in cc);
+      from_one = λ c r e. absurd (let z : None ≡ Some r = e in cc);
+      alone = λ c w r e first last ne. refl;
+    };
     point = point_with_line start (Volume ws);
     known = λ g c k l u own. absurd (root_unmade c k g (only_root g u) own);
     fresh = λ c r g l e none own u. absurd (let z : None ≡ Some r = e in cc);
@@ -211,9 +217,8 @@ module _ (ws : List ℕ) (d : Disk) (new : AreNew ws d) (some : 0 < d.count) whe
     plain = λ x b l. inl (ap core (no_slot b x l));
     unmoved = λ f b r l h. absurd (none_some (file_at d b f) r (no_file b f l) h);
     unopened = λ b r l. ap (λ (c : Contents). contains_key c.opens.registered r) (new.contents b l) ∙ ap is_some (get-empty registration_cmp r);
-    covered = λ n. (let h = planned_holder ws root (dm n) heavy (dm_below n) in ap (λ ranges. is_some (holder ranges (dm n))) (planned_new heavy count) ∙ ap is_some h.2);
+    planned = λ g first b r l h. inr (ap bounds (planned_at heavy count g b r l h));
     held = λ x b f first l h. absurd (none_some (name_at d b x) f (ap file_in (no_slot b x l)) h);
     unlinked = λ x b first l. subst HasNone (sym (no_slot b x l)) refl;
-    alone = λ b g l. root_at b g l;
     earlier = λ g u. subst (λ (x : Gfid). run_of x ≤ 1) (sym (only_root g u)) (omega arith);
   }

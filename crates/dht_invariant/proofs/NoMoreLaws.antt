@@ -22,15 +22,16 @@ use Rattle.dht_section.specs.Moves.{Guarantee}
 use Rattle.dht_section.specs.Names.{StandsAs}
 use Rattle.dht_section.specs.Rely.{IsFileUsed, IsNameless, ByBytes, ByRecord, BySeal, outline}
 use Rattle.dht_section.specs.Scene.{Scene, Guards, NameStands}
-use Rattle.dht_section.specs.Shapes.{NameShape, NameFits}
+use Rattle.dht_section.specs.Shapes.{NameShape, Folder, NameFits}
 use Rattle.dht_section.specs.Views.{core, cores_of, links_to, view_of}
-use Rattle.dht_invariant.specs.Locality.{Reach, NamesFile, NamesDir, ByDirRecord, ByDirName, ByParent, NamesLock, NameClause, FileClause}
+use Rattle.dht_invariant.specs.Locality.{Reach, NamesFile, NamesDir, ByDirRecord, ByDirName, ByParent, IsNode, NamesLock, NameClause, FileClause}
 use Rattle.dht_invariant.specs.Touches.{Touches, OwnsFile, Same}
 use Rattle.dht_invariant.proofs.Basics.{none_some}
 use Rattle.dht_invariant.proofs.ClauseLocality.{reach_of, answers_leave_others}
 use Rattle.dht_invariant.proofs.EarlyLaws.{HasNone, early_on}
 use Rattle.dht_invariant.proofs.Frames.{used_kept}
 use Rattle.dht_invariant.proofs.GrowsLaws.{grows_refl}
+use Rattle.dht_invariant.proofs.LayoutLaws.{planned_same}
 
 -- bricks store what they stored, or less
 pub record StoresNoMore (d e : Disk) : Type 0 where
@@ -71,8 +72,8 @@ module _ (d e : Disk) (m : StoresNoMore d e) where
     | inr q ↦ absurd (ne q)
   ]
 
-  pub early_no_more : (s t : History) → t.run ≡ s.run → ((b : ℕ) → (e.brick b).opens.registered ≡ (d.brick b).opens.registered) → ((g : Gfid) → Used e t.tree g → Used d s.tree g) → Early d s → Early e t
-  early_no_more s t run registered used k = early_on d e s t (record { count = m.count; run = run; dirs = m.dirs; unopened = λ b r h. ap (λ os. contains_key os r) (registered b) ∙ h }) k
+  pub early_no_more : (s t : History) → t.run ≡ s.run → t.weights ≡ s.weights → ((b : ℕ) → (e.brick b).opens.registered ≡ (d.brick b).opens.registered) → ((g : Gfid) → Used e t.tree g → Used d s.tree g) → Early d s → Early e t
+  early_no_more s t run weights registered used k = early_on d e s t (record { count = m.count; run = run; weights = weights; dirs = m.dirs; unopened = λ b r h. ap (λ os. contains_key os r) (registered b) ∙ h }) k
       (λ x b l. slot_by IsPlain b x (k.plain x b l) (inl refl))
       (λ x b first l. slot_by HasNone b x (k.unlinked x b first l) refl)
       (λ f b r l h. k.unmoved f b r l (record_was b f r h))
@@ -80,9 +81,9 @@ module _ (d e : Disk) (m : StoresNoMore d e) where
       (λ g u. inl (used g u))
 
   -- what is used was used, where the tree has what it had of it, and it is sealed where it was
-  pub used_no_more : (t u : Tree) (g : Gfid) → u.bytes g ≡ t.bytes g → u.dirs g ≡ t.dirs g → (view_of e g).sealed ≡ (view_of d g).sealed → Used e u g → Used d t g
-  used_no_more t u g bytes dirs sealed = used_kept e d u t g (sym m.count)
-      (λ h none. h (bytes ∙ none)) (λ h. sym dirs ∙ h)
+  pub used_no_more : (t u : Tree) (g : Gfid) → u.bytes g ≡ t.bytes g → u.dirs g ≡ t.dirs g → u.descents g ≡ t.descents g → (view_of e g).sealed ≡ (view_of d g).sealed → Used e u g → Used d t g
+  used_no_more t u g bytes dirs descents sealed = used_kept e d u t g (sym m.count)
+      (λ h none. h (bytes ∙ none)) (λ h. sym dirs ∙ h) (λ h none. h (descents ∙ none))
       (λ b h. recorded_was b g h)
       (λ b h. ap is_some (sym (m.dirs b g)) ∙ h)
       (sym sealed)
@@ -115,6 +116,7 @@ pub record TakesGuarded (o : Scene) (e : Disk) (u : Tree) : Type 0 where
   pub names : (x : Entry) → Guards o x ⊎ ((u.names x ≡ o.history.tree.names x) × ((b : ℕ) → slot_at e b x ≡ slot_at o.disk b x))
   pub files : (f : Gfid) → OwnsFile o f ⊎ ((b : ℕ) → file_at e b f ≡ file_at o.disk b f)
   pub dirs : (g : Gfid) → u.dirs g ≡ o.history.tree.dirs g
+  pub descents : (g : Gfid) → u.descents g ≡ o.history.tree.descents g
   pub used : (f : Gfid) → IsFileUsed o.disk o.history.tree f → IsFileUsed e u f
   pub sealed : (f : Gfid) → (view_of o.disk f).sealed ≡ true → (view_of e f).sealed ≡ true
 
@@ -143,7 +145,13 @@ module _ (o : Scene) (e : Disk) (u : Tree) (m : TakesGuarded o e u) where
       | inr q ↦ inr (ap outline (q b))
     ];
     dirs = λ g b. inr (Same (m.stores.dirs b g));
+    both = λ x g on st. elim (m.names x) [
+      | inl q ↦ inl q
+      | inr q ↦ inr (inr (stands_still x (Folder g on) q.0 q.1 st))
+    ];
     known = λ g h. inr (m.dirs g ∙ h);
+    planned = λ g. planned_same o.disk e g o.history.weights o.history.weights m.stores.count refl (λ b. m.stores.dirs b g);
+    made = λ g h k. m.descents g ∙ k;
     used = m.used;
     sealed = m.sealed;
     nameless = λ f. nameless_no_more o.disk e m.stores o.history.tree u f (m.used f);
@@ -155,9 +163,12 @@ no_dir_named p b d e dir slot turned g (ByDirRecord k) = none_some p.stored.dir 
 no_dir_named p b d e dir slot turned g (ByDirName x k z) = none_some p.stored.slot x slot k
 no_dir_named p b d e dir slot turned g (ByParent r k there place z) = none_some p.turned k.dir turned z
 
+pub no_node_named : (p : Reach) (t : Tree) → p.stored.slot ≡ None → (g : Gfid) → IsNode p t g → ⊥
+no_node_named p t slot g h = none_some p.stored.slot h.entry slot h.slot
+
 -- things stand where no more is stored, and no directory and no lock is named
 module _ (s t : Scene) (a : Ask) (r : Reply) (m : Guarantee s a r t) (less : StoresNoMore s.disk t.disk) where
-  pub things_no_more : ((x : Entry) → ((reach_of s a).stored.slot ≢ Some x) ⊎ NameClause t.disk t.history.tree x) → ((f : Gfid) → (NamesFile (reach_of s a) a.brick.0 s.disk t.disk f → ⊥) ⊎ FileClause t.disk t.history.tree (most_hops t.history) s.claims f) → ((g : Gfid) → NamesDir (reach_of s a) a.brick.0 s.disk t.disk g → ⊥) → ((i : ℕ) (key : Key) → NamesLock (reach_of s a) a.brick.0 i key → ⊥) → Things s.disk s.history.tree (most_hops s.history) s.claims → Things t.disk t.history.tree (most_hops t.history) t.claims
+  pub things_no_more : ((x : Entry) → ((reach_of s a).stored.slot ≢ Some x) ⊎ NameClause t.disk t.history.tree x) → ((f : Gfid) → (NamesFile (reach_of s a) a.brick.0 s.disk t.disk f → ⊥) ⊎ FileClause t.disk t.history.tree (most_hops t.history) s.claims f) → ((g : Gfid) → (NamesDir (reach_of s a) a.brick.0 s.disk t.disk g → ⊥) × (IsNode (reach_of s a) s.history.tree g → ⊥)) → ((i : ℕ) (key : Key) → NamesLock (reach_of s a) a.brick.0 i key → ⊥) → Things s.disk s.history.tree (most_hops s.history) s.claims → Things t.disk t.history.tree (most_hops t.history) t.claims
   things_no_more names files dirs locks k =
       let others = answers_leave_others s t a r m in
       subst (λ (p : ℕ → Claim). Things t.disk t.history.tree (most_hops t.history) p) (sym m.claims) (record {
@@ -169,7 +180,7 @@ module _ (s t : Scene) (a : Ask) (r : Reply) (m : Guarantee s a r t) (less : Sto
           | inl out ↦ others.files f out (k.files f)
           | inr h ↦ h
         ];
-        dirs = λ g. others.dirs g (dirs g) (k.dirs g);
+        dirs = λ g. others.dirs g (dirs g).0 (dirs g).1 (k.dirs g);
         locks = λ b key l. others.locks b key (locks b key) (k.locks b key (within s.disk t.disk less b l));
         housed = λ x b l. housed_no_more s.disk t.disk less x b (k.housed x b (within s.disk t.disk less b l));
         roots = λ b l. ap is_some (less.dirs b root) ∙ k.roots b (within s.disk t.disk less b l);

@@ -1,10 +1,11 @@
 -- What stays where bricks store what they stored: only locks, registrations, claims or lines of the history change.
 use Rattle.std.proofs.Common.{◌≡◌, ◌≢◌, ◌<◌, ◌≤◌, ℕ, false, refl, sym, ap, ◌∙◌, subst, inl, length, arith}
-use Rattle.std.specs.Prelude.{is_some, Any}
+use Rattle.std.specs.Prelude.{Some, is_some, Any}
 use Rattle.std.specs.FinMap.{contains_key}
 use Rattle.dht_types.specs.Gfid.{Entry, root, anchor}
-use Rattle.dht_types.specs.Tree.{Tree}
-use Rattle.dht_types.specs.History.{History, PendingCall, IsOwn}
+use Rattle.dht_types.specs.Counted.{CallsCounted}
+use Rattle.dht_types.specs.Tree.{Tree, IsTree}
+use Rattle.dht_types.specs.History.{History, PendingCall, IsOwn, IsAlone}
 use Rattle.dht_types.specs.declared.identifiers.Gfid.{Gfid}
 use Rattle.dht_types.specs.declared.identifiers.ClientNo.{ClientNo}
 use Rattle.dht_types.specs.declared.locks.Key.{Key}
@@ -20,13 +21,14 @@ use Rattle.dht_section.specs.Invariant.{Invariant, Things, Used, NothingUsed, mo
 use Rattle.dht_section.specs.Locks.{LockInvariant}
 use Rattle.dht_section.specs.Names.{StandsAs}
 use Rattle.dht_section.specs.Rely.{Rely, IsFileUsed, IsNameless, ByBytes, ByRecord, BySeal, outline}
-use Rattle.dht_section.specs.Shapes.{NameShape, NameFits}
+use Rattle.dht_section.specs.Shapes.{NameShape, Folder, NameFits}
 use Rattle.dht_section.specs.Views.{core, cores_of, links_to, view_of, dir_view}
 use Rattle.dht_invariant.specs.Transition.{Transition, scene}
 use Rattle.dht_invariant.proofs.Basics.{none_some}
 use Rattle.dht_invariant.proofs.EarlyLaws.{HasNone, early_on}
 use Rattle.dht_invariant.proofs.Frames.{name_kept, dir_kept, dir_view_same, used_kept}
 use Rattle.dht_invariant.proofs.GrowsLaws.{grows_refl}
+use Rattle.dht_invariant.proofs.LayoutLaws.{planned_same}
 use Rattle.dht_invariant.proofs.LessLaws.{file_less}
 
 -- bricks store what they stored, the same files are sealed, and no file is open to more
@@ -60,6 +62,7 @@ pub record SameHistory (s t : History) : Type 0 where
   pub weights : t.weights ≡ s.weights
   pub run : t.run ≡ s.run
   pub calls : s.calls ≤ t.calls
+  pub counts : CallsCounted s → CallsCounted t
   pub later : s.size ≤ t.size
   pub past : (j : ℕ) → j ≤ s.size → t.past j ≡ s.past j
   pub point : t.past t.size ≡ t.tree
@@ -97,21 +100,21 @@ module _ (d e : Disk) (m : SameStores d e) where
   things_same t low top p q l less locks k = record {
     names = λ x. name_kept d.count e.count (cores_of d x) (cores_of e x) (t.names x) (t.names x) m.count (λ b. ap core (slots_same b x)) refl (k.names x);
     files = λ f. file_less d.count e.count low top (view_of e f).opened (places_of p f) (places_of q f) (view_of d f) (view_of e f) (t.bytes f) m.count (view_fewer f) (opened_less f) l (less f) (k.files f);
-    dirs = λ g. dir_kept d.count e.count g (dir_view d g) (dir_view e g) (t.dirs g) (t.dirs g) m.count
-        (dir_view_same d e g dirs_same (λ b x. ap (λ (p : Slot). is_dir g p.main) (slots_same b x))) refl (k.dirs g);
+    dirs = λ g. dir_kept d.count e.count g (dir_view d g) (dir_view e g) (t.dirs g) (t.dirs g) (t.descents g) (t.descents g) m.count
+        (dir_view_same d e g dirs_same (λ b x. ap (λ (p : Slot). is_dir g p.main) (slots_same b x))) refl refl (k.dirs g);
     locks = locks;
     housed = λ x b h ne. ap is_some (dirs_same b x.0) ∙ k.housed x b (within b h) (λ q. ne (slots_same b x ∙ q));
     roots = λ b h. ap is_some (dirs_same b root) ∙ k.roots b (within b h);
   }
 
   pub used_same : (t : Tree) (g : Gfid) → Used e t g → Used d t g
-  used_same t g = used_kept e d t t g (sym m.count) (λ h. h) (λ h. h)
+  used_same t g = used_kept e d t t g (sym m.count) (λ h. h) (λ h. h) (λ h. h)
       (λ b h. ap is_some (sym (files_same b g)) ∙ h)
       (λ b h. ap is_some (sym (dirs_same b g)) ∙ h)
       (sym (sealed_same g))
 
-  pub early_same : (s t : History) → t.tree ≡ s.tree → t.run ≡ s.run → Early d s → Early e t
-  early_same s t tree run k = early_on d e s t (record { count = m.count; run = run; dirs = dirs_same; unopened = m.unopened }) k
+  pub early_same : (s t : History) → t.tree ≡ s.tree → t.run ≡ s.run → t.weights ≡ s.weights → Early d s → Early e t
+  early_same s t tree run weights k = early_on d e s t (record { count = m.count; run = run; weights = weights; dirs = dirs_same; unopened = m.unopened }) k
       (λ x b l. subst IsPlain (sym (slots_same b x)) (k.plain x b l))
       (λ x b first l. subst HasNone (sym (slots_same b x)) (k.unlinked x b first l))
       (λ f b r l h. k.unmoved f b r l (sym (files_same b f) ∙ h))
@@ -132,6 +135,8 @@ module _ (d e : Disk) (m : SameStores d e) where
           some_brick = omega arith;
           counted = count ∙ k.counted ∙ ap length (sym h.weights);
           few = omega arith;
+          tree = subst IsTree (sym h.tree) k.tree;
+          counts = h.counts k.counts;
           point = h.point;
           known = λ g c n l u own. (let z = k.known g c n l (used_same s.tree g (subst (λ (x : Tree). Used e x g) h.tree u)) (subst (λ (i : ℕ). IsOwn i c n g) h.run own) in omega arith);
           fresh = fresh;
@@ -156,9 +161,13 @@ module _ (d e : Disk) (m : SameStores d e) where
       node = ap (λ (u : Tree). u.names x) h.tree ∙ st.node;
     }
 
+    -- a call that is alone was alone, as no call was accepted since
+    alone_before : (w : ℕ) (r : PendingCall) → CallsCounted s → s.pending w ≡ Some r → IsAlone t r → IsAlone s r
+    alone_before w r counts pending alone = (let l = h.calls in let n = counts.numbered w r pending in let last = alone.last in record { first = alone.first; last = omega arith })
+
     -- to a client whose locks stay it is what others may do
-    pub rely_same : (p q : ℕ → Claim) (w : ClientNo) (r : PendingCall) → ((b : ℕ) (key : Key) → holders e b key w.0 ≡ holders d b key w.0) → Rely (scene d s p w r) (scene e t q w r)
-    rely_same p q w r locks = record {
+    pub rely_same : (p q : ℕ → Claim) (w : ClientNo) (r : PendingCall) → CallsCounted s → s.pending w.0 ≡ Some r → ((b : ℕ) (key : Key) → holders e b key w.0 ≡ holders d b key w.0) → Rely (scene d s p w r) (scene e t q w r)
+    rely_same p q w r counts pending locks = record {
       who = refl;
       mine = record { number = refl; call = refl; since = refl; alone = refl; was_down = refl; has_failed = refl; deeds = refl };
       count = m.count;
@@ -171,6 +180,10 @@ module _ (d e : Disk) (m : SameStores d e) where
       dirs = λ g b rec i there. (rec, dirs_same b g ∙ there, record { place = refl; depth = refl; hashes = refl });
       added = λ g b rec i none there. absurd (none_some (dir_at d b g) rec none (sym (dirs_same b g) ∙ there));
       known = λ g i k. ap (λ (u : Tree). u.dirs g) h.tree ∙ k;
+      both = λ x g on i a st. stands_same x (Folder g on) st;
+      planned = λ g. planned_same d e g s.weights t.weights m.count h.weights (λ b. dirs_same b g);
+      made = λ g x k. ap (λ (u : Tree). u.descents g) h.tree ∙ k;
+      still = λ alone. record { before = alone_before w.0 r counts pending alone; tree = h.tree; stores = m.stores };
       used = file_used_same;
       sealed = λ f k. sealed_same f ∙ k;
       nameless = nameless_same;
@@ -183,10 +196,10 @@ module _ (d e : Disk) (m : SameStores d e) where
     transition_same c p q elsewhere less locks holds claims pending fresh k now = record {
       count = m.count;
       kept = invariant_same p q less locks fresh k;
-      early = early_same s t h.tree h.run now;
+      early = early_same s t h.tree h.run h.weights now;
       later = h.later;
       pending = pending;
       claims = claims;
       elsewhere = elsewhere;
-      others = λ w r ne. rely_same p q w r (λ b key. holds b key w.0 ne);
+      others = λ w r ne pending. rely_same p q w r k.counts pending (λ b key. holds b key w.0 ne);
     }

@@ -2,7 +2,8 @@
 use Rattle.std.proofs.Common.{◌≡◌, ◌≢◌, ◌<◌, ◌≤◌, ℕ, refl, sym, ◌∙◌, subst, inl, inr}
 use Rattle.std.specs.Prelude.{None, Some, List}
 use Rattle.dht_types.specs.Gfid.{Entry, anchor}
-use Rattle.dht_types.specs.History.{History, PendingCall}
+use Rattle.dht_types.specs.Counted.{CallsCounted}
+use Rattle.dht_types.specs.History.{History, PendingCall, IsAlone}
 use Rattle.dht_types.specs.declared.identifiers.Gfid.{Gfid}
 use Rattle.dht_types.specs.declared.identifiers.ClientNo.{ClientNo}
 use Rattle.dht_types.specs.declared.locks.Key.{Key}
@@ -13,7 +14,8 @@ use Rattle.dht_types.specs.declared.stored.DirRecord.{DirRecord}
 use Rattle.dht_section.specs.Claims.{Claim}
 use Rattle.dht_section.specs.Disk.{Disk, lock_at, dir_at, holders}
 use Rattle.dht_section.specs.Locks.{LockInvariant}
-use Rattle.dht_section.specs.Rely.{Rely, AllPlanned, CopyStays}
+use Rattle.dht_section.specs.Planned.{AllPlanned}
+use Rattle.dht_section.specs.Rely.{Rely, CopyStays}
 use Rattle.dht_section.specs.Scene.{Scene, HoldsDir, HoldsAlone, Guards}
 use Rattle.dht_invariant.specs.Touches.{Touches, DirStays, Same, Cleared, Added}
 use Rattle.dht_invariant.specs.Transition.{scene}
@@ -54,8 +56,13 @@ module _ (o : Scene) (w : ClientNo) (r : PendingCall) (ne : w.0 ≢ o.who.0) (so
   comes e g b rec (Cleared r q h i same) none k = absurd (none_some (dir_at o.disk b g) r none h)
   comes e g b rec (Added h planned) none k = planned
 
-  pub others_of : (e : Disk) (t : History) (q : ℕ → Claim) → Touches o e t.tree → t.run ≡ o.history.run → t.weights ≡ o.history.weights → o.history.size ≤ t.size → ((j : ℕ) → j ≤ o.history.size → t.past j ≡ o.history.past j) → Rely (seen_by w r o) (scene e t q w r)
-  others_of e t q h run weights later past = record {
+  -- the call of another client is not alone, as mine is running too
+  pub never_alone : (t : History) → CallsCounted o.history → o.history.pending o.who.0 ≡ Some o.mine → o.history.pending w.0 ≡ Some r → t.calls ≡ o.history.calls → IsAlone t r → ⊥
+  never_alone t counts mine other calls alone =
+      none_some (o.history.pending o.who.0) o.mine (counts.alone w.0 o.who.0 r other alone.first (alone.last ∙ calls) (λ q. ne (sym q))) mine
+
+  pub others_of : (e : Disk) (t : History) (q : ℕ → Claim) → Touches o e t.tree → (IsAlone t r → ⊥) → t.run ≡ o.history.run → t.weights ≡ o.history.weights → o.history.size ≤ t.size → ((j : ℕ) → j ≤ o.history.size → t.past j ≡ o.history.past j) → Rely (seen_by w r o) (scene e t q w r)
+  others_of e t q h running run weights later past = record {
     who = refl;
     mine = record { number = refl; call = refl; since = refl; alone = refl; was_down = refl; has_failed = refl; deeds = refl };
     count = h.count;
@@ -68,6 +75,13 @@ module _ (o : Scene) (w : ClientNo) (r : PendingCall) (ne : w.0 ≢ o.who.0) (so
     dirs = λ g b rec i there. elim (h.dirs g b) [ inl q ↦ absurd (clash_dir g q i) | inr q ↦ stays e g b rec q there ];
     added = λ g b rec i none there. elim (h.dirs g b) [ inl q ↦ absurd (clash_dir g q i) | inr q ↦ subst (λ (ws : List ℕ). AllPlanned e ws g) (sym weights) (comes e g b rec q none there) ];
     known = λ g i d. elim (h.known g d) [ inl q ↦ absurd (clash_dir g q i) | inr q ↦ q ];
+    both = λ x g on i a st. elim (h.both x g on st) [
+      | inl q ↦ absurd (guards_clash x q (inl i))
+      | inr q ↦ elim q [ inl z ↦ absurd (clash g (Dir g) Exclusive z a) | inr z ↦ z ]
+    ];
+    planned = λ g k. subst (λ (ws : List ℕ). AllPlanned e ws g) (sym weights) (h.planned g k);
+    made = h.made;
+    still = λ alone. absurd (running alone);
     used = h.used;
     sealed = h.sealed;
     nameless = h.nameless;

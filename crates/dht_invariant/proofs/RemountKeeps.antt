@@ -1,12 +1,14 @@
 -- A remount keeps the invariant, and what holds beside it for now; and so does one that was broken off.
 use Rattle.std.proofs.Common.{◌≡◌, ◌≢◌, ◌<◌, ◌≤◌, ℕ, true, false, refl, sym, ap, ◌∙◌, subst, cond, inl, inr, length, arith}
-use Rattle.std.specs.Prelude.{Option, Some, None, List, is_some, not, unwrap_or}
+use Rattle.std.specs.Prelude.{Option, Some, None, List, is_some, not, unwrap_or, slice_index_or, ◌⊎◌, ◌+◌}
+use Rattle.std.specs.Option.{option_map}
 use Rattle.std.specs.FinMap.{get, contains_key, get-empty, get-retain_keys}
 use Rattle.std.proofs.lemmas.Bool.{cases_lt}
 use Rattle.dht_types.proofs.HistoryLaws.{point_with_line}
-use Rattle.dht_types.specs.Gfid.{Entry, root, home, anchor, same_gfid}
+use Rattle.dht_types.specs.Gfid.{Entry, root, home, anchor}
 use Rattle.dht_types.specs.History.{History, IsOwn, with_line}
-use Rattle.dht_types.specs.Tree.{Tree}
+use Rattle.dht_types.proofs.PutLaws.{exact_gfid}
+use Rattle.dht_types.specs.Tree.{Tree, Descent, of_root, depth_in, depth_of}
 use Rattle.dht_types.specs.Volume.{HasWeight}
 use Rattle.dht_types.specs.declared.identifiers.CallNo.{CallNo}
 use Rattle.dht_types.specs.declared.identifiers.ClientNo.{ClientNo}
@@ -26,22 +28,28 @@ use Rattle.dht_brick.specs.OpenRows.{registrations, is_sealed}
 use Rattle.dht_brick.specs.Parts.{is_copy, is_dir, is_forward, is_plain}
 use Rattle.dht_brick.specs.declared.opens.Registration.{Registration}
 use Rattle.dht_section.specs.Claims.{Claim, places_of}
-use Rattle.dht_section.specs.Dirs.{PlacedAt, StandsIn}
-use Rattle.dht_section.specs.Disk.{Disk, file_in, slot_at, name_at, file_at, dir_at, range_of, holder_of, holders}
+use Rattle.dht_section.specs.Dirs.{DirInvariant, PlacedAt, SameCopy, StandsIn, CopyAt}
+use Rattle.dht_section.specs.Disk.{Disk, file_in, slot_at, name_at, file_at, dir_at, range_of_value, range_of, holder_of, holders}
+use Rattle.dht_section.specs.Planned.{AllPlanned, bounds}
+use Rattle.dht_xattr.specs.Plan.{planned}
 use Rattle.dht_section.specs.Early.{Early, IsPlain, IsUnmoved}
-use Rattle.dht_section.specs.Invariant.{Invariant, Things, Used, ByBytes, ByDir, ByRecord, ByCopy, BySeal, most_hops}
+use Rattle.dht_section.specs.Invariant.{Invariant, Things, Used, ByBytes, ByDir, ByDescent, ByRecord, ByCopy, BySeal, most_hops}
 use Rattle.dht_section.specs.Locks.{LockInvariant}
 use Rattle.dht_section.specs.Views.{core, cores_of, links_to, view_of, dir_view}
 use Rattle.dht_invariant.specs.Laws.{RemountsKeep, RemountsInPartKeep}
 use Rattle.dht_invariant.specs.Remount.{Remounts, RemountsInPart}
-use Rattle.dht_invariant.proofs.AloneLaws.{RootAlone, dir_alone}
 use Rattle.dht_invariant.proofs.Basics.{is_there, none_some, some_same, true_false, anchor_within}
-use Rattle.dht_invariant.proofs.EarlyLaws.{HasNone, is_no_dir}
+use Rattle.dht_invariant.proofs.EarlyLaws.{HasNone}
+use Rattle.dht_invariant.proofs.NodeLaws.{told_dir}
 use Rattle.dht_invariant.proofs.LayoutLaws.{holder_stays}
 use Rattle.dht_invariant.proofs.Newborn.{none_open, root_record, root_first, root_only, is_not}
 use Rattle.dht_invariant.proofs.OwnLaws.{own_later}
 use Rattle.dht_invariant.proofs.QuietKeeps.{at_most}
 use Rattle.dht_invariant.proofs.WiderLaws.{ShowsWider, name_wider, file_wider}
+
+no_range : bounds (range_of (Some (root_record None))) ≡ None
+unfolding range_of_value
+no_range = refl
 
 -- bricks store what they stored, further ones are new, and nobody holds or has open what he did not
 record Anew (d e : Disk) : Type 0 where
@@ -76,40 +84,106 @@ module _ (d e : Disk) (s : History) (p : ℕ → Claim) (m : Anew d e) (k : Inva
 
   -- ---- directories
 
-  alone : (b : ℕ) (g : Gfid) → b < e.count → is_some (dir_at e b g) ≡ same_gfid g root
-  alone b g = each (λ i. is_some (dir_at e i g) ≡ same_gfid g root)
-      (λ i l. ap is_some (m.dirs i g l) ∙ now.alone i g l)
-      (λ i h l. ap (λ (c : Contents). is_some (dir c.store g)) (m.new i h l) ∙ root_only None g) b
-
-  no_name : (b : ℕ) (x : Entry) (g : Gfid) → b < d.count → is_dir g (slot_at d b x).main ≡ false
-  no_name b x g l = is_no_dir (slot_at d b x) g (now.plain x b l)
-
-  -- no name is the root's, so its record stands nowhere
-  old_parts : (b : ℕ) (r : DirRecord) → b < d.count → dir_at d b root ≡ Some r → (r.place ≡ None) × (r.depth ≡ 0)
-  old_parts b r l h = by r.place refl
+  -- the root stands nowhere, as the tree says
+  root_parts : (b : ℕ) (r : DirRecord) → b < d.count → dir_at d b root ≡ Some r → (r.place ≡ None) × (r.depth ≡ 0)
+  root_parts b r l h = by r.place refl
     where
       placed : (o : Option EntryKey) → r.place ≡ o → PlacedAt (dir_view d root) b r o
       placed o q = subst (PlacedAt (dir_view d root) b r) q ((k.things.dirs root).placed b r l h)
 
+      below : (x : Entry) → is_dir root (slot_at d b x).main ≡ true → ⊥
+      below x main =
+          let child = k.tree.child x root (told_dir d x (s.tree.names x) b root (k.things.names x) l main) in
+          let same : of_root ≡ record { depth = depth_of s.tree x.0 + 1; place = Some x } = some_same (s.tree.descents root) _ _ k.tree.rooted.1 child.descent in
+          let z : None ≡ Some x = ap (λ (y : Descent). y.place) same in cc
+
       by : (o : Option EntryKey) → r.place ≡ o → (r.place ≡ None) × (r.depth ≡ 0)
       by None q = (q, placed None q)
-      by (Some x) q = absurd (true_false _ (let z : StandsIn (dir_view d root) b r x = placed (Some x) q in z.main) (no_name b (entry_at x) root l))
+      by (Some x) q = absurd (below (entry_at x) (let z : StandsIn (dir_view d root) b r x = placed (Some x) q in z.main))
 
-  new_parts : (b : ℕ) (r : DirRecord) → d.count ≤ b → b < e.count → dir_at e b root ≡ Some r → (r.place ≡ None) × (r.depth ≡ 0)
-  new_parts b r h l q =
-      let same : r ≡ root_record None = some_same (dir_at e b root) r (root_record None) q (ap (λ (c : Contents). dir c.store root) (m.new b h l) ∙ root_first None) in
-      (ap (λ (x : DirRecord). x.place) same, ap (λ (x : DirRecord). x.depth) same)
+  -- a record was there, or is the root's on a new brick
+  record IsNewRoot (b : ℕ) (g : Gfid) (r : DirRecord) : Type 0 where
+    at_root : g ≡ root
+    record_is : r ≡ root_record None
 
-  root_alone : RootAlone e
-  root_alone = record {
-    some_brick = some;
-    alone = alone;
-    parts = λ b r. each (λ i. dir_at e i root ≡ Some r → (r.place ≡ None) × (r.depth ≡ 0))
-        (λ i l h. old_parts i r l (sym (m.dirs i root l) ∙ h)) (λ i h l. new_parts i r h l) b;
-    no_name = λ b x g. each (λ i. is_dir g (slot_at e i x).main ≡ false)
-        (λ i l. ap (λ (y : Slot). is_dir g y.main) (m.slots i x l) ∙ no_name i x g l)
-        (λ i h l. ap (λ (y : Slot). is_dir g y.main) (new_slot i x h l)) b;
+  new_record : (b : ℕ) (g : Gfid) (r : DirRecord) → d.count ≤ b → b < e.count → dir_at e b g ≡ Some r → IsNewRoot b g r
+  new_record b g r h l q =
+      let at_root : g ≡ root = (exact_gfid g root).0 (sym (root_only None g) ∙ (ap (λ (c : Contents). is_some (dir c.store g)) (sym (m.new b h l)) ∙ ap is_some q)) in
+      record {
+        at_root = at_root;
+        record_is = some_same (dir_at e b root) r (root_record None) (ap (dir_at e b) (sym at_root) ∙ q) (ap (λ (c : Contents). dir c.store root) (m.new b h l) ∙ root_first None);
+      }
+
+  -- what holds of a directory's record, where it was there and where it is new
+  each_record : (P : ℕ → DirRecord → Type 0) (g : Gfid) → ((b : ℕ) (r : DirRecord) → b < d.count → dir_at d b g ≡ Some r → P b r) → ((b : ℕ) (r : DirRecord) → d.count ≤ b → IsNewRoot b g r → P b r) → (b : ℕ) (r : DirRecord) → b < e.count → dir_at e b g ≡ Some r → P b r
+  each_record P g old new b r l q = elim (cases_lt b d.count) [
+    | inl h ↦ old b r h (sym (m.dirs b g h) ∙ q)
+    | inr h ↦ new b r h (new_record b g r h l q)
+  ]
+
+  all_parts : (b : ℕ) (r : DirRecord) → b < e.count → dir_at e b root ≡ Some r → (r.place ≡ None) × (r.depth ≡ 0)
+  all_parts = each_record (λ b r. (r.place ≡ None) × (r.depth ≡ 0)) root root_parts
+      (λ b r h n. (ap (λ (x : DirRecord). x.place) n.record_is, ap (λ (x : DirRecord). x.depth) n.record_is))
+
+  same_root : (g : Gfid) (b i : ℕ) (r q : DirRecord) → g ≡ root → b < e.count → i < e.count → dir_at e b g ≡ Some r → dir_at e i g ≡ Some q → SameCopy r q
+  same_root g b i r q at_root lb li hb hi =
+      let x = all_parts b r lb (ap (dir_at e b) (sym at_root) ∙ hb) in
+      let y = all_parts i q li (ap (dir_at e i) (sym at_root) ∙ hi) in
+      record { place = y.0 ∙ sym x.0; depth = y.1 ∙ sym x.1 }
+
+  one_anew : (g : Gfid) (b i : ℕ) (r q : DirRecord) → b < e.count → i < e.count → dir_at e b g ≡ Some r → dir_at e i g ≡ Some q → SameCopy r q
+  one_anew g b i r q lb li hb hi = elim (cases_lt b d.count) [
+    | inl x ↦ elim (cases_lt i d.count) [
+      | inl y ↦ (k.things.dirs g).one b i r q x y (sym (m.dirs b g x) ∙ hb) (sym (m.dirs i g y) ∙ hi)
+      | inr y ↦ same_root g b i r q (new_record i g q y li hi).at_root lb li hb hi
+    ]
+    | inr x ↦ same_root g b i r q (new_record b g r x lb hb).at_root lb li hb hi
+  ]
+
+  main_same : (g : Gfid) (b : ℕ) (x : Entry) → b < d.count → is_dir g (slot_at e b x).main ≡ is_dir g (slot_at d b x).main
+  main_same g b x l = ap (λ (p : Slot). is_dir g p.main) (m.slots b x l)
+
+  placed_on : (g : Gfid) (b : ℕ) (r : DirRecord) (o : Option EntryKey) → b < d.count → PlacedAt (dir_view d g) b r o → PlacedAt (dir_view e g) b r o
+  placed_on g b r None l h = h
+  placed_on g b r (Some x) l h = record {
+    main = main_same g b (entry_at x) l ∙ h.main;
+    above = h.above;
+    parent = ap (option_map (λ (y : DirRecord). y.depth)) (m.dirs b x.dir l) ∙ h.parent;
+    depth = h.depth;
   }
+
+  copy_on : (g : Gfid) (b : ℕ) (x : Entry) → b < d.count → CopyAt (dir_view d g) b x → CopyAt (dir_view e g) b x
+  copy_on g b x l h = record { copy = h.copy; there = m.dirs b g l ∙ h.there; key = h.key; place = h.place; name = h.name }
+
+  root_depth : (g : Gfid) → g ≡ root → depth_in (s.tree.descents g) ≡ 0
+  root_depth g q = ap (λ (x : Gfid). depth_in (s.tree.descents x)) q ∙ ap depth_in k.tree.rooted.1
+
+  led_anew : (g : Gfid) (b : ℕ) → b < e.count → is_some (dir_at e b g) ≡ true → (home g < e.count) × (s.tree.dirs g ≡ true)
+  led_anew g b l h =
+      let r = is_there (dir_at e b g) h in
+      elim (cases_lt b d.count) [
+        | inl q ↦ (let z = (k.things.dirs g).led b q (ap is_some (sym (m.dirs b g q)) ∙ h) in let more = m.more in (omega arith, z.1))
+        | inr q ↦ (let n = new_record b g r.0 q l r.1 in
+            (subst (λ (x : Gfid). home x < e.count) (sym n.at_root) some, ap s.tree.dirs n.at_root ∙ k.tree.rooted.0))
+      ]
+
+  dir_anew : (g : Gfid) → DirInvariant e.count g (dir_view e g) (s.tree.dirs g) (s.tree.descents g)
+  dir_anew g =
+      let old = k.things.dirs g in
+      record {
+        homed = old.homed ∙ sym (m.homes g);
+        led = led_anew g;
+        one = one_anew g;
+        placed = each_record (λ b r. PlacedAt (dir_view e g) b r r.place) g
+            (λ b r l h. placed_on g b r r.place l (old.placed b r l h))
+            (λ b r l n. subst (λ (x : DirRecord). PlacedAt (dir_view e g) b x x.place) (sym n.record_is) refl);
+        rooted = each_record (λ b r. r.place ≡ None → g ≡ root) g old.rooted (λ b r l n none. n.at_root);
+        deep = each_record (λ b r. r.depth ≡ depth_in (s.tree.descents g)) g old.deep
+            (λ b r l n. ap (λ (x : DirRecord). x.depth) n.record_is ∙ sym (root_depth g n.at_root));
+        named = λ b x. each (λ i. is_dir g (slot_at e i x).main ≡ true → CopyAt (dir_view e g) i x)
+            (λ i l h. copy_on g i x l (old.named i x l (sym (main_same g i x l) ∙ h)))
+            (λ i q l h. absurd (let z : false ≡ true = sym (ap (λ (p : Slot). is_dir g p.main) (new_slot i x q l)) ∙ h in cc)) b;
+      }
 
   -- ---- each thing
 
@@ -139,12 +213,14 @@ module _ (d e : Disk) (s : History) (p : ℕ → Claim) (m : Anew d e) (k : Inva
     names = λ x. name_wider d.count e.count (cores_of d x) (cores_of e x) (s.tree.names x) m.more
         (λ b q. ap core (m.slots b x q)) (λ b h q. ap core (new_slot b x h q)) (k.things.names x);
     files = λ f. file_wider d.count e.count (view_of d f) (view_of e f) (shows f) (most_hops s) top (places_of p f) (s.tree.bytes f) l (k.things.files f);
-    dirs = λ g. dir_alone e root_alone g (s.tree.dirs g) ((k.things.dirs g).homed ∙ sym (m.homes g));
+    dirs = dir_anew;
     locks = locks_anew;
     housed = λ x b. each (λ i. slot_at e i x ≢ bare → is_some (dir_at e i x.0) ≡ true)
         (λ i q ne. ap is_some (m.dirs i x.0 q) ∙ k.things.housed x i q (λ z. ne (m.slots i x q ∙ z)))
         (λ i h q ne. absurd (ne (new_slot i x h q))) b;
-    roots = λ b. alone b root;
+    roots = λ b. each (λ i. is_some (dir_at e i root) ≡ true)
+        (λ i q. ap is_some (m.dirs i root q) ∙ k.things.roots i q)
+        (λ i h q. ap (λ (c : Contents). is_some (dir c.store root)) (m.new i h q) ∙ ap is_some (root_first None)) b;
   }
 
   -- what is used was used: the root is everywhere
@@ -155,7 +231,8 @@ module _ (d e : Disk) (s : History) (p : ℕ → Claim) (m : Anew d e) (k : Inva
     | inl q ↦ ByRecord b r q (sym (m.files b g q) ∙ h)
     | inr q ↦ absurd (none_some (file_at e b g) r (new_file b g q l) h)
   ]
-  used_anew g (ByCopy b l h) = ByCopy 0 k.some_brick (now.alone 0 g k.some_brick ∙ (sym (alone b g l) ∙ h))
+  used_anew g (ByDescent h) = ByDescent h
+  used_anew g (ByCopy b l h) = ByDir (led_anew g b l h).1
   used_anew g (BySeal h) = BySeal (m.sealed g h)
 
   -- ---- what holds for now
@@ -168,7 +245,12 @@ module _ (d e : Disk) (s : History) (p : ℕ → Claim) (m : Anew d e) (k : Inva
   holder_on : (x : Entry) (b : ℕ) → holder_of d x ≡ Some b → holder_of e x ≡ Some b
   holder_on x b = holder_stays d e x.0 (dm x.1) b m.more (λ i l. ap range_of (m.dirs i x.0 l))
 
-  early_anew : (t : History) → t.tree ≡ s.tree → s.run ≤ t.run → (t.run ≡ 1 → s.run ≡ 1) → Early e t
+  -- a new brick has no range
+  planned_anew : (ws : List ℕ) (g : Gfid) → AllPlanned d ws g → AllPlanned e ws g
+  planned_anew ws g h = each_record (λ b r. (bounds (range_of (Some r)) ≡ None) ⊎ (bounds (range_of (Some r)) ≡ bounds (slice_index_or (planned ws g) b None))) g h
+      (λ b r l n. inl (ap (λ (x : DirRecord). bounds (range_of (Some x))) n.record_is ∙ no_range))
+
+  early_anew : (t : History) → t.tree ≡ s.tree → s.run ≤ t.run → (t.run ≡ 1 → (s.run ≡ 1) × (t.weights ≡ s.weights)) → Early e t
   early_anew t tree run first = record {
     plain = λ x b. each (λ i. IsPlain (slot_at e i x))
         (λ i l. subst IsPlain (sym (m.slots i x l)) (now.plain x i l))
@@ -177,12 +259,11 @@ module _ (d e : Disk) (s : History) (p : ℕ → Claim) (m : Anew d e) (k : Inva
         (λ i l h. now.unmoved f i r l (sym (m.files i f l) ∙ h))
         (λ i q l h. absurd (none_some (file_at e i f) r (new_file i f q l) h)) b;
     unopened = m.unopened;
-    covered = λ n. (let h = is_there (holder_of d (root, n)) (now.covered n) in ap is_some (holder_on (root, n) h.0 h.1));
-    held = λ x b f one l h. (let was = name_was x b f l h in holder_on x b (now.held x b f (first one) was.0 was.1));
+    planned = λ g one. subst (λ (ws : List ℕ). AllPlanned e ws g) (sym (first one).1) (planned_anew s.weights g (now.planned g (first one).0));
+    held = λ x b f one l h. (let was = name_was x b f l h in holder_on x b (now.held x b f (first one).0 was.0 was.1));
     unlinked = λ x b one. each (λ i. HasNone (slot_at e i x))
-        (λ i l. subst HasNone (sym (m.slots i x l)) (now.unlinked x i (first one) l))
+        (λ i l. subst HasNone (sym (m.slots i x l)) (now.unlinked x i (first one).0 l))
         (λ i h l. subst HasNone (sym (new_slot i x h l)) refl) b;
-    alone = alone;
     earlier = λ g u. (let z = now.earlier g (used_anew g (subst (λ (y : Tree). Used e y g) tree u)) in omega arith);
   }
 
@@ -265,6 +346,8 @@ module _ (ws : List ℕ) (d e : Disk) (s : History) (p : ℕ → Claim) (m : Rem
         some_brick = omega arith;
         counted = count;
         few = omega arith;
+        tree = k.tree;
+        counts = record { listed = k.counts.listed; calling = k.counts.calling; numbered = k.counts.numbered; from_one = k.counts.from_one; alone = k.counts.alone };
         point = point_with_line s (Remounted ws);
         known = λ g c n l u own. absurd (none_own g c n u own);
         fresh = λ c r g l q none own u. none_own g c r.number u own;
@@ -322,13 +405,15 @@ module _ (d e : Disk) (s : History) (p : ℕ → Claim) (m : RemountsInPart d e)
         some_brick = omega arith;
         counted = count ∙ k.counted;
         few = omega arith;
+        tree = k.tree;
+        counts = k.counts;
         point = k.point;
         known = λ g c n l u. k.known g c n l (used_anew d e s p in_part k now g u);
         fresh = λ c r g l q none own u. k.fresh c r g l q none own (used_anew d e s p in_part k now g u);
       }
 
   part_early : Early e s
-  part_early = early_anew d e s p in_part k now s refl (at_most _ _ refl) (λ one. one)
+  part_early = early_anew d e s p in_part k now s refl (at_most _ _ refl) (λ one. (one, refl))
 
 pub remounts_in_part_keep : RemountsInPartKeep
 remounts_in_part_keep d e s p k now m = (part_invariant d e s p m k now, part_early d e s p m k now)

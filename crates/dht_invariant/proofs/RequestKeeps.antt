@@ -5,7 +5,8 @@ use Rattle.dht_types.proofs.PutLaws.{put_same, put_other, exact_nat, exact_entry
 use Rattle.dht_types.specs.Put.{same_entry}
 use Rattle.std.specs.FinMap.{contains_key}
 use Rattle.dht_types.specs.Gfid.{Entry, anchor, same_gfid, run_of}
-use Rattle.dht_types.specs.Tree.{Tree, IsFile, applied}
+use Rattle.dht_types.proofs.TreeLaws.{fits_keeps_tree}
+use Rattle.dht_types.specs.Tree.{Tree, IsTree, IsFile, IsDir, applied}
 use Rattle.dht_types.specs.History.{PendingCall, IsOwn, deeds_after}
 use Rattle.dht_types.specs.declared.identifiers.Gfid.{Gfid}
 use Rattle.dht_types.specs.declared.identifiers.ClientNo.{ClientNo}
@@ -21,10 +22,12 @@ use Rattle.dht_brick.specs.Contents.{Contents, Store, Opens, bare, slot, dir, fi
 use Rattle.dht_brick.specs.Locality.{name_places}
 use Rattle.dht_brick.specs.OpenRows.{is_sealed}
 use Rattle.dht_brick.specs.Parts.{is_copy, with_main}
-use Rattle.dht_brick.specs.declared.requests.NameRequest.TheVariants.{Create}
+use Rattle.dht_brick.specs.declared.requests.NameRequest.{NameRequest}
+use Rattle.dht_brick.specs.declared.requests.NameRequest.TheVariants.{Look, Dirinfo, SetLayout, MakeDir, DropDir, Create, MakeLinkto, DropLinkto, Unlink}
 use Rattle.dht_brick.specs.declared.requests.Request.{Request}
 use Rattle.dht_brick.specs.declared.requests.Request.TheVariants.{OnNames}
 use Rattle.dht_brick.specs.declared.replies.Reply.{Reply}
+use Rattle.dht_brick.specs.declared.replies.Reply.TheVariants.{Ok as Carried}
 use Rattle.dht_section.specs.declared.machine.Ask.{Ask}
 use Rattle.dht_section.specs.Claims.{Claim, places_of}
 use Rattle.dht_section.specs.Disk.{file_in, slot_at, name_at, file_at, dir_at, holder_of, holders}
@@ -32,12 +35,12 @@ use Rattle.dht_section.specs.Truth.{plain}
 use Rattle.dht_section.specs.Early.{Early, IsPlain, IsUnmoved}
 use Rattle.dht_section.specs.Invariant.{Invariant, Things, Used, NothingUsed, most_hops}
 use Rattle.dht_section.specs.Locks.{LockInvariant}
-use Rattle.dht_section.specs.Moves.{Guarantee, step_of, tree_by, deeds_by}
-use Rattle.dht_section.specs.Permits.{May, Permitted, Changes}
+use Rattle.dht_section.specs.Moves.{Guarantee, name_step, request_step, step_of, tree_by, deeds_by}
+use Rattle.dht_section.specs.Permits.{May, MayName, IsBuilt, Permitted, Changes}
 use Rattle.dht_section.specs.Rely.{IsFileUsed, IsNameless}
-use Rattle.dht_section.specs.Scene.{Scene, Sound}
+use Rattle.dht_section.specs.Scene.{Scene, Sound, WantsAll}
 use Rattle.dht_section.specs.Views.{core, links_to}
-use Rattle.dht_invariant.specs.Laws.{Preserves}
+use Rattle.dht_invariant.specs.Laws.{IsMine, Carries, RequestsAreTransitions}
 use Rattle.dht_invariant.specs.Makes.{Makes, IsNew}
 use Rattle.dht_invariant.specs.Touches.{Touches, OwnsFile}
 use Rattle.dht_invariant.specs.Transition.{Transition, OnlyMine}
@@ -45,18 +48,45 @@ use Rattle.dht_invariant.proofs.Basics.{gfid_cases}
 use Rattle.dht_section.proofs.SlotLaws.{entry_cases}
 use Rattle.dht_invariant.proofs.ContentsLaws.{slot_at_new, slot_off_new, file_at_new, file_off_new}
 use Rattle.dht_invariant.proofs.CreateKeeps.{no_link, same_copies, links_other, create_keeps}
+use Rattle.dht_invariant.proofs.DirRequests.{preserves_carries, directories_keep}
 use Rattle.dht_invariant.proofs.EarlyLaws.{HasNone, early_on}
-use Rattle.dht_section.proofs.EarlyLaws.{nat_cases, stands_plainly}
+use Rattle.dht_section.proofs.EarlyLaws.{nat_cases, stands_plainly, Nowhere, Once, AsFolder}
 use Rattle.dht_invariant.proofs.Frames.{brick_by, brick_is, kept_by, file_is_used, used_kept}
 use Rattle.dht_invariant.proofs.LinktoKeeps.{linktos_keep}
 use Rattle.dht_invariant.proofs.LockKeeps.{locks_moved}
 use Rattle.dht_invariant.proofs.OwnLaws.{own_is, own_run}
 use Rattle.dht_invariant.proofs.QuietKeeps.{SameStores, SameHistory, at_most, same_opens, same_stores, things_same, used_same, transition_same}
-use Rattle.dht_invariant.proofs.RelyLaws.{others_of}
+use Rattle.dht_invariant.proofs.RelyLaws.{never_alone, others_of}
 use Rattle.dht_invariant.proofs.RemovalKeeps.{removals_keep}
-use Rattle.dht_invariant.proofs.RowEffects.{Quiet, Adds, IsQuiet, IsCreate, Removes, TurnsLinkto, effect}
+use Rattle.dht_invariant.proofs.RowEffects.{Quiet, Adds, IsQuiet, IsCreate, Removes, TurnsLinkto, TurnsDir, effect}
 use Rattle.dht_invariant.proofs.ServedLaws.{others_hold}
 use Rattle.dht_invariant.proofs.TouchLaws.{OneSlot, one_slot_touches}
+
+-- ---- the step of a request that was permitted can be done
+
+name_wants : (s : Scene) (b : ℕ) (q : NameRequest) → IsBuilt q → MayName s b q → WantsAll s (name_step b q)
+name_wants s b (Look d n) built may = tt
+name_wants s b (Dirinfo d) built may = tt
+name_wants s b (SetLayout d value) built may = tt
+name_wants s b (MakeDir d n g depth value) built may = may.wants
+name_wants s b (DropDir d n g) built may = may.wants
+name_wants s b (Create d n f) built may = may.wants
+name_wants s b (MakeLinkto d n value) built may = tt
+name_wants s b (DropLinkto d n) built may = tt
+name_wants s b (Unlink d n f) built may = may.wants
+name_wants s b q built may = absurd built
+
+request_wants : (s : Scene) (b : ℕ) (q : Request) → May s b q → WantsAll s (request_step b q)
+request_wants s b (OnNames q) may = name_wants s b q may.0 may.1
+request_wants s b q may = tt
+
+reply_wants : (s : Scene) (b : ℕ) (q : Request) (r : Reply) → May s b q → WantsAll s (step_of b q r)
+reply_wants s b q (Carried given) may = request_wants s b q may
+reply_wants s b q r may = tt
+
+tree_wanted : (s : Scene) (step : Option TreeStep) → IsTree s.history.tree → WantsAll s step → IsTree (tree_by step s.history.tree)
+tree_wanted s None k w = k
+tree_wanted s (Some step) k w = fits_keeps_tree s.history.tree step k w.fits
 
 -- ---- of whom the pending calls are
 
@@ -84,6 +114,9 @@ module _ (s t : Scene) (a : Ask) (r : Reply) (m : Guarantee s a r t) (sound : So
   elsewhere : (b : ℕ) → s.disk.count ≤ b → t.disk.brick b ≡ s.disk.brick b
   elsewhere b l = brick_by (λ (c : Contents). c ≡ s.disk.brick b) s.disk t.disk a.brick.0 m.new b m.disk (λ e. (let there = p.there in absurd (omega arith))) (λ x. refl)
 
+  tree_now : IsTree t.history.tree
+  tree_now = subst IsTree (sym m.tree) (tree_wanted s (step_of a.brick.0 a.request m.real) sound.kept.tree (reply_wants s a.brick.0 a.request m.real p.may))
+
   -- what keeps the invariant and touches no more than it may is a transition
   changed_transition : Invariant t.disk t.history t.claims → Early t.disk t.history → Touches s t.disk t.history.tree → Transition s.who.0 s.disk s.history s.claims t.disk t.history t.claims
   changed_transition kept early touches = record {
@@ -94,12 +127,13 @@ module _ (s t : Scene) (a : Ask) (r : Reply) (m : Guarantee s a r t) (sound : So
     pending = others_wait;
     claims = λ w ne. ap (λ (x : ℕ → Claim). x w) m.claims;
     elsewhere = elsewhere;
-    others = λ w r ne. others_of s w r ne sound.kept.some_brick sound.kept.things.locks t.disk t.history t.claims touches m.run m.weights m.later m.past;
+    others = λ w r ne runs. others_of s w r ne sound.kept.some_brick sound.kept.things.locks t.disk t.history t.claims touches
+        (never_alone s w r ne sound.kept.some_brick sound.kept.things.locks t.history sound.kept.counts sound.runs runs h.calls) m.run m.weights m.later m.past;
   }
 
   -- ---- a request that made nothing
 
-  module _ (q : Quiet a.request m.real (s.disk.brick a.brick.0) m.new) where
+  module _ (q : Quiet a.brick.0 a.request m.real (s.disk.brick a.brick.0) m.new) where
     quiet_stores : SameStores s.disk t.disk
     quiet_stores = same_opens s.disk t.disk m.disk.count
         (kept_by (λ (c : Contents). c.store) s.disk t.disk a.brick.0 m.new m.disk q.store)
@@ -124,7 +158,7 @@ module _ (s t : Scene) (a : Ask) (r : Reply) (m : Guarantee s a r t) (sound : So
         ]
 
     quiet_history : SameHistory s.history t.history
-    quiet_history = (let calls = h.calls in record { tree = quiet_tree; weights = m.weights; run = m.run; calls = omega arith; later = m.later; past = m.past; point = h.point })
+    quiet_history = (let calls = h.calls in record { tree = quiet_tree; weights = m.weights; run = m.run; calls = omega arith; counts = h.counts; later = m.later; past = m.past; point = h.point })
 
     quiet_transition : Transition s.who.0 s.disk s.history s.claims t.disk t.history t.claims
     quiet_transition = transition_same s.disk t.disk quiet_stores s.history t.history quiet_history s.who.0 s.claims t.claims elsewhere less locks_now
@@ -132,7 +166,7 @@ module _ (s t : Scene) (a : Ask) (r : Reply) (m : Guarantee s a r t) (sound : So
 
   -- ---- a request that made a file
 
-  module _ (q : Adds a.request m.real (s.disk.brick a.brick.0) m.new) where
+  module _ (q : Adds a.brick.0 a.request m.real (s.disk.brick a.brick.0) m.new) where
     abbrev at : ℕ
     at = a.brick.0
 
@@ -190,8 +224,9 @@ module _ (s t : Scene) (a : Ask) (r : Reply) (m : Guarantee s a r t) (sound : So
     -- nothing stood at the name, and the file is of nothing
     bare_before : (b : ℕ) → b < s.disk.count → core (slot_at s.disk b name) ≡ bare
     bare_before = elim (stands_plainly s.disk name (s.history.tree.names name) (sound.kept.things.names name) (sound.early.plain name)) [
-      | inl z ↦ z.bare
-      | inr z ↦ absurd (let w : Some (IsFile z.file) ≡ None = sym z.node ∙ may.wants.fits.1 in cc)
+      | Nowhere z ↦ z.bare
+      | Once z ↦ absurd (let w : Some (IsFile z.file) ≡ None = sym z.node ∙ may.wants.fits.1 in cc)
+      | AsFolder z ↦ absurd (let w : Some (IsDir z.directory) ≡ None = sym z.stands.node ∙ may.wants.fits.1 in cc)
     ]
 
     is_new : IsNew s.disk s.history.tree name q.file
@@ -207,49 +242,16 @@ module _ (s t : Scene) (a : Ask) (r : Reply) (m : Guarantee s a r t) (sound : So
         (things_same t.disk t.disk (same_stores t.disk) (applied (AddFile q.dir q.name q.file) s.history.tree) (most_hops s.history) (most_hops t.history) s.claims t.claims (omega arith) less locks_now
         (create_keeps s.disk t.disk s.history.tree at name q.file (most_hops s.history) s.claims makes is_new sound.kept.things))
 
-    -- the file is this call's own, and all else that is used was used before
-    own_call : (c : ClientNo) (k : CallNo) → k.0 < 2 ^ 64 → IsOwn t.history.run c k q.file → (c.0 ≡ s.who.0) × (k.0 ≡ s.mine.number.0)
-    own_call c k l own = own_is s.history.run c s.who k s.mine.number q.file l h.small (subst (λ (i : ℕ). IsOwn i c k q.file) m.run own) may.wants.own
-
+    -- what is used but the file was used before
     used_before : (g : Gfid) → g ≢ q.file → Used t.disk t.history.tree g → Used s.disk s.history.tree g
     used_before g ne u = used_kept t.disk s.disk (applied (AddFile q.dir q.name q.file) s.history.tree) s.history.tree g (sym m.disk.count)
         (λ e none. e (put_other same_gfid exact_gfid s.history.tree.bytes q.file (Some []) g ne ∙ none))
+        (λ e. e)
         (λ e. e)
         (λ i e. ap is_some (sym (files_stay i g ne)) ∙ e)
         (λ i e. ap is_some (sym (dirs_stay i g)) ∙ e)
         (sym (ap (λ (i : ℕ). is_sealed (t.disk.brick i).opens g) (ap (anchor g) m.disk.count) ∙ ap (λ (o : Opens). is_sealed o g) (opens_stay (anchor g s.disk.count))))
         (subst (λ (x : Tree). Used t.disk x g) made_tree u)
-
-    made_known : (g : Gfid) (c : ClientNo) (k : CallNo) → k.0 < 2 ^ 64 → Used t.disk t.history.tree g → IsOwn t.history.run c k g → k.0 ≤ t.history.calls
-    made_known g c k l u own = elim (gfid_cases g q.file) [
-      | inl e ↦ (let z = (own_call c k l (subst (IsOwn t.history.run c k) e own)).1 in let n = h.numbered in let calls = h.calls in omega arith)
-      | inr ne ↦ (let z = sound.kept.known g c k l (used_before g ne u) (subst (λ (i : ℕ). IsOwn i c k g) m.run own) in let calls = h.calls in omega arith)
-    ]
-
-    made_unused : NothingUsed t.disk t.history
-    made_unused c r g l e none own u = elim (nat_cases c.0 s.who.0) [
-      | inl z ↦ absurd (let w : None ≡ Some (deeds_after s.history.tree t.history.size s.mine.call s.mine.deeds (AddFile q.dir q.name q.file)) = sym none ∙ (ap (λ (x : PendingCall). x.deeds) (mine_is s t c.0 r h e z) ∙ made_deeds) in cc)
-      | inr ne ↦ elim (gfid_cases g q.file) [
-        | inl w ↦ absurd (ne (own_call c r.number l (subst (IsOwn t.history.run c r.number) w own)).0)
-        | inr nw ↦ sound.kept.fresh c r g l (other_is s t c.0 r h e ne) none (subst (λ (i : ℕ). IsOwn i c r.number g) m.run own) (used_before g nw u)
-      ]
-    ]
-
-    made_invariant : Invariant t.disk t.history t.claims
-    made_invariant =
-        let count = m.disk.count in
-        let some = sound.kept.some_brick in
-        let few = sound.kept.few in
-        record {
-          things = made_things;
-          heavy = subst (λ ws. Any (λ w. 0 < w) ws) (sym m.weights) sound.kept.heavy;
-          some_brick = omega arith;
-          counted = count ∙ sound.kept.counted ∙ ap length (sym m.weights);
-          few = omega arith;
-          point = h.point;
-          known = made_known;
-          fresh = made_unused;
-        }
 
     -- ---- what holds for now
     slot_made : slot_at t.disk at name ≡ plain q.file
@@ -261,7 +263,7 @@ module _ (s t : Scene) (a : Ask) (r : Reply) (m : Guarantee s a r t) (sound : So
     made_plain : (x : Entry) (i : ℕ) → i < s.disk.count → IsPlain (slot_at t.disk i x)
     made_plain x i l = elim (entry_cases x name) [
       | inl e ↦ elim (nat_cases i at) [
-        | inl z ↦ inr (q.file, ap (λ (j : ℕ). slot_at t.disk j x) z ∙ (ap (slot_at t.disk at) e ∙ slot_made))
+        | inl z ↦ inr (inl (q.file, ap (λ (j : ℕ). slot_at t.disk j x) z ∙ (ap (slot_at t.disk at) e ∙ slot_made)))
         | inr ne ↦ subst IsPlain (sym (slots_off i x ne)) (sound.early.plain x i l)
       ]
       | inr ne ↦ subst IsPlain (sym (slots_stay i x ne)) (sound.early.plain x i l)
@@ -303,7 +305,7 @@ module _ (s t : Scene) (a : Ask) (r : Reply) (m : Guarantee s a r t) (sound : So
 
     made_early : Early t.disk t.history
     made_early = early_on s.disk t.disk s.history t.history
-        (record { count = m.disk.count; run = m.run; dirs = dirs_stay; unopened = λ i o k. ap (λ (x : Opens). contains_key x.registered o) (opens_stay i) ∙ k }) sound.early
+        (record { count = m.disk.count; run = m.run; weights = m.weights; dirs = dirs_stay; unopened = λ i o k. ap (λ (x : Opens). contains_key x.registered o) (opens_stay i) ∙ k }) sound.early
         made_plain made_none made_unmoved made_named made_earlier
 
     -- ---- what it is to others
@@ -349,6 +351,7 @@ module _ (s t : Scene) (a : Ask) (r : Reply) (m : Guarantee s a r t) (sound : So
       owns = no_names;
       names = λ y ne. put_other same_entry exact_entry s.history.tree.names name (Some (IsFile q.file)) y ne;
       dirs = λ g. refl;
+      descents = λ g. refl;
       bytes = bytes_stay;
       recorded = recorded;
       unnamed = unnamed;
@@ -357,55 +360,86 @@ module _ (s t : Scene) (a : Ask) (r : Reply) (m : Guarantee s a r t) (sound : So
     touches : Touches s t.disk t.history.tree
     touches = subst (Touches s t.disk) (sym made_tree) (one_slot_touches s (name_places (Create q.dir q.name q.file)) name (Some q.file) t.disk (applied (AddFile q.dir q.name q.file) s.history.tree) one_slot)
 
-    made_transition : Transition s.who.0 s.disk s.history s.claims t.disk t.history t.claims
-    made_transition = changed_transition made_invariant made_early touches
+    made_used : (g : Gfid) → Used t.disk t.history.tree g → Used s.disk s.history.tree g ⊎ IsMine s t g
+    made_used g u = elim (gfid_cases g q.file) [
+      | inl e ↦ inr (record {
+        own = subst (IsOwn s.history.run s.who s.mine.number) (sym e) may.wants.own;
+        did = λ none. (let w : None ≡ Some (deeds_after s.history.tree t.history.size s.mine.call s.mine.deeds (AddFile q.dir q.name q.file)) = sym none ∙ made_deeds in cc);
+      })
+      | inr ne ↦ inl (used_before g ne u)
+    ]
 
-  -- ---- a request that takes something away, or is of a linkto
+    made_carries : Carries s t
+    made_carries = record { things = made_things; early = made_early; used = made_used; touches = touches }
 
-  module _ (q : Preserves s t) where
+  -- ---- any request that was carried out, or not
+
+  module _ (q : Carries s t) where
     -- a call that has done nothing now had done nothing
     deeds_before : (o : Option TreeStep) → t.mine.deeds ≡ deeds_by s t.history.size o → t.mine.deeds ≡ None → s.mine.deeds ≡ None
     deeds_before None e none = sym e ∙ none
     deeds_before (Some x) e none = absurd (let z : None ≡ Some (deeds_after s.history.tree t.history.size s.mine.call s.mine.deeds x) = sym none ∙ e in cc)
 
-    left_unused : NothingUsed t.disk t.history
-    left_unused c r g l e none own u =
+    -- what is this call's own is no other's
+    own_call : (c : ClientNo) (k : CallNo) (g : Gfid) → k.0 < 2 ^ 64 → IsOwn s.history.run c k g → IsMine s t g → (c.0 ≡ s.who.0) × (k.0 ≡ s.mine.number.0)
+    own_call c k g l own mine = own_is s.history.run c s.who k s.mine.number g l h.small own mine.own
+
+    carried_unused : NothingUsed t.disk t.history
+    carried_unused c r g l e none own u =
         let was_own : IsOwn s.history.run c r.number g = subst (λ (i : ℕ). IsOwn i c r.number g) m.run own in
         elim (nat_cases c.0 s.who.0) [
           | inl z ↦ (let same = mine_is s t c.0 r h e z in
+              let undone : t.mine.deeds ≡ None = ap (λ (x : PendingCall). x.deeds) (sym same) ∙ none in
               let number : r.number ≡ s.mine.number = ap (λ (x : PendingCall). x.number) same ∙ m.mine.number in
-              sound.kept.fresh c s.mine g (subst (λ (x : CallNo). x.0 < 2 ^ 64) number l) (ap s.history.pending z ∙ sound.runs)
-              (deeds_before (step_of a.request m.real) m.mine.deeds_are (ap (λ (x : PendingCall). x.deeds) (sym same) ∙ none))
-              (subst (λ (x : CallNo). IsOwn s.history.run c x g) number was_own) (q.used g u))
-          | inr ne ↦ sound.kept.fresh c r g l (other_is s t c.0 r h e ne) none was_own (q.used g u)
+              elim (q.used g u) [
+                | inl used ↦ sound.kept.fresh c s.mine g (subst (λ (x : CallNo). x.0 < 2 ^ 64) number l) (ap s.history.pending z ∙ sound.runs)
+                    (deeds_before (step_of a.brick.0 a.request m.real) m.mine.deeds_are undone)
+                    (subst (λ (x : CallNo). IsOwn s.history.run c x g) number was_own) used
+                | inr mine ↦ mine.did undone
+              ])
+          | inr ne ↦ elim (q.used g u) [
+            | inl used ↦ sound.kept.fresh c r g l (other_is s t c.0 r h e ne) none was_own used
+            | inr mine ↦ ne (own_call c r.number g l was_own mine).0
+          ]
         ]
 
-    left_invariant : Invariant t.disk t.history t.claims
-    left_invariant =
+    carried_known : (g : Gfid) (c : ClientNo) (k : CallNo) → k.0 < 2 ^ 64 → Used t.disk t.history.tree g → IsOwn t.history.run c k g → k.0 ≤ t.history.calls
+    carried_known g c k l u own =
+        let calls = h.calls in
+        let was_own : IsOwn s.history.run c k g = subst (λ (i : ℕ). IsOwn i c k g) m.run own in
+        elim (q.used g u) [
+          | inl used ↦ (let z = sound.kept.known g c k l used was_own in omega arith)
+          | inr mine ↦ (let z = (own_call c k g l was_own mine).1 in let n = h.numbered in omega arith)
+        ]
+
+    carried_invariant : Invariant t.disk t.history t.claims
+    carried_invariant =
         let count = m.disk.count in
         let some = sound.kept.some_brick in
         let few = sound.kept.few in
-        let calls = h.calls in
         record {
           things = q.things;
           heavy = subst (λ ws. Any (λ w. 0 < w) ws) (sym m.weights) sound.kept.heavy;
           some_brick = omega arith;
           counted = count ∙ sound.kept.counted ∙ ap length (sym m.weights);
           few = omega arith;
+          tree = tree_now;
+          counts = h.counts sound.kept.counts;
           point = h.point;
-          known = λ g c k l u own. (let z = sound.kept.known g c k l (q.used g u) (subst (λ (i : ℕ). IsOwn i c k g) m.run own) in omega arith);
-          fresh = left_unused;
+          known = carried_known;
+          fresh = carried_unused;
         }
 
-    left_transition : Transition s.who.0 s.disk s.history s.claims t.disk t.history t.claims
-    left_transition = changed_transition left_invariant q.early q.touches
+    carried_transition : Transition s.who.0 s.disk s.history s.claims t.disk t.history t.claims
+    carried_transition = changed_transition carried_invariant q.early q.touches
 
-pub request_transition : (s t : Scene) (a : Ask) (r : Reply) → Guarantee s a r t → Sound s → Permitted s a → OnlyMine s t → Transition s.who.0 s.disk s.history s.claims t.disk t.history t.claims
+pub request_transition : RequestsAreTransitions
 request_transition s t a r m sound p h = elim (effect _ s a.brick.0 a.request (s.disk.brick a.brick.0) m.real m.new p.may m.served) [
   | IsQuiet q ↦ quiet_transition s t a r m sound p h q
-  | IsCreate q ↦ made_transition s t a r m sound p h q
-  | Removes q ↦ left_transition s t a r m sound p h (removals_keep s t a r q p m sound)
+  | IsCreate q ↦ carried_transition s t a r m sound p h (made_carries s t a r m sound p h q)
+  | Removes q ↦ carried_transition s t a r m sound p h (preserves_carries s t (removals_keep s t a r q p m sound))
   | TurnsLinkto n q e ↦
       let may : May s a.brick.0 (OnNames n) = subst (May s a.brick.0) e p.may in
-      left_transition s t a r m sound p h (linktos_keep s t a.brick n r q p.there may.1 (subst (λ (x : Request). Guarantee s (record { brick = a.brick; request = x }) r t) e m) sound).kept
+      carried_transition s t a r m sound p h (preserves_carries s t (linktos_keep s t a.brick n r q p.there may.1 (subst (λ (x : Request). Guarantee s (record { brick = a.brick; request = x }) r t) e m) sound).kept)
+  | TurnsDir q ↦ carried_transition s t a r m sound p h (directories_keep s t a r q m sound p h)
 ]

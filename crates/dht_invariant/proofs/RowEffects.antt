@@ -1,4 +1,4 @@
--- What a permitted request that was served did to its brick: nothing but with locks; it made a file; or it is one that takes something away, or is of a linkto.
+-- What a permitted request that was served did to its brick: nothing but with locks; it made a file; or it is one that takes something away, or is of a linkto or of a directory.
 use Rattle.std.proofs.Common.{◌≡◌, ℕ, Bool, true, false, List, refl, sym, ap}
 use Rattle.std.specs.Prelude.{Option, Some, None, is_some, is_none, ◌&&◌}
 use Rattle.dht_types.specs.declared.identifiers.Gfid.{Gfid}
@@ -15,7 +15,7 @@ use Rattle.dht_brick.specs.Parts.{is_bare}
 use Rattle.dht_brick.specs.Rows.{row, after, with_store, with_locks}
 use Rattle.dht_brick.specs.declared.requests.FileRequest.TheVariants.{Drop}
 use Rattle.dht_brick.specs.declared.requests.NameRequest.{NameRequest}
-use Rattle.dht_brick.specs.declared.requests.NameRequest.TheVariants.{Look, Dirinfo, Create, MakeLinkto, DropLinkto, Unlink}
+use Rattle.dht_brick.specs.declared.requests.NameRequest.TheVariants.{Look, Dirinfo, SetLayout, MakeDir, DropDir, Create, MakeLinkto, DropLinkto, Unlink}
 use Rattle.dht_brick.specs.declared.requests.Request.{Request}
 use Rattle.dht_brick.specs.declared.requests.Request.TheVariants.{Lock, Unlock, Seal, OnNames, OnFile}
 use Rattle.dht_brick.specs.declared.replies.Given.{Given}
@@ -24,7 +24,7 @@ use Rattle.dht_brick.specs.declared.replies.Reply.TheVariants.{Ok as Carried, Re
 use Rattle.dht_section.specs.Moves.{step_of}
 use Rattle.dht_section.specs.Permits.{May}
 use Rattle.dht_section.specs.Scene.{Scene}
-use Rattle.dht_invariant.specs.Laws.{IsOfLinkto, IsRemoval}
+use Rattle.dht_invariant.specs.Laws.{IsOfLinkto, IsRemoval, IsOfDir}
 use Rattle.dht_invariant.proofs.ContentsLaws.{added, new_slot}
 use Rattle.dht_invariant.proofs.ServedLaws.{within_keeps, served_keeps}
 
@@ -53,17 +53,17 @@ after_store bricks client call (OnNames (Dirinfo d)) c h = shown_keeps (dir c.st
 after_store bricks client call q c h = absurd h
 
 -- and does no step
-no_step : (q : Request) (r : Reply) → IsQuietRequest q → step_of q r ≡ None
-no_step (Lock key mode) (Carried given) h = refl
-no_step (Unlock key) (Carried given) h = refl
-no_step (OnNames (Look d n)) (Carried given) h = refl
-no_step (OnNames (Dirinfo d)) (Carried given) h = refl
-no_step q (Carried given) h = absurd h
-no_step q r h = refl
+no_step : (b : ℕ) (q : Request) (r : Reply) → IsQuietRequest q → step_of b q r ≡ None
+no_step b (Lock key mode) (Carried given) h = refl
+no_step b (Unlock key) (Carried given) h = refl
+no_step b (OnNames (Look d n)) (Carried given) h = refl
+no_step b (OnNames (Dirinfo d)) (Carried given) h = refl
+no_step b q (Carried given) h = absurd h
+no_step b q r h = refl
 
 -- a request did no step of the tree, and changed nothing but locks
-pub record Quiet (q : Request) (r : Reply) (c new : Contents) : Type 0 where
-  pub step : step_of q r ≡ None
+pub record Quiet (b : ℕ) (q : Request) (r : Reply) (c new : Contents) : Type 0 where
+  pub step : step_of b q r ≡ None
   pub store : new.store ≡ c.store
   pub opens : new.opens ≡ c.opens
 
@@ -71,12 +71,12 @@ abbrev has_dir : Store → Gfid → Bool
 has_dir s g = is_some (dir s g)
 
 -- a request made a file
-pub record Adds (q : Request) (r : Reply) (c new : Contents) : Type 0 where
+pub record Adds (b : ℕ) (q : Request) (r : Reply) (c new : Contents) : Type 0 where
   pub dir : Gfid
   pub name : List ℕ
   pub file : Gfid
   pub request : q ≡ OnNames (Create dir name file)
-  pub step : step_of q r ≡ Some (AddFile dir name file)
+  pub step : step_of b q r ≡ Some (AddFile dir name file)
   pub housed : has_dir c.store dir ≡ true
   pub store : new.store ≡ added c.store (dir, name) file
   pub opens : new.opens ≡ c.opens
@@ -89,9 +89,9 @@ after_opens bricks client call (Unlock key) c h = refl
 after_opens bricks client call (OnNames q) c h = within_keeps (λ (x : Contents). x.opens) (with_store c) (name_row bricks q c.store) c (λ a. refl)
 after_opens bricks client call q c h = absurd h
 
-effect_quiet : (bricks : List (List ℕ)) (s : Scene) (q : Request) (c : Contents) (r : Reply) (new : Contents) → IsQuietRequest q → ServesOrFails (row bricks s.who s.mine.number q c) c r new → Quiet q r c new
-effect_quiet bricks s q c r new h v = record {
-  step = no_step q r h;
+effect_quiet : (bricks : List (List ℕ)) (s : Scene) (at : ℕ) (q : Request) (c : Contents) (r : Reply) (new : Contents) → IsQuietRequest q → ServesOrFails (row bricks s.who s.mine.number q c) c r new → Quiet at q r c new
+effect_quiet bricks s at q c r new h v = record {
+  step = no_step at q r h;
   store = served_keeps (λ (x : Contents). x.store) (row bricks s.who s.mine.number q c) c r new (after_store bricks s.who s.mine.number q c h) v;
   opens = served_keeps (λ (x : Contents). x.opens) (row bricks s.who s.mine.number q c) c r new (after_opens bricks s.who s.mine.number q c h) v;
 }
@@ -105,11 +105,11 @@ is_done (Await holder) = false
 abbrev created : Gfid → List ℕ → Gfid → Contents → Option DirRecord → Bool → Outcome Contents
 created d n f c o b = within (with_store c) (in_dir o (λ x. on_slot (Create d n f) c.store (d, n) (when b (new_slot c.store (d, n) f))))
 
-created_by : (d : Gfid) (n : List ℕ) (f : Gfid) (c : Contents) (given : Given) (new : Contents) (o : Option DirRecord) (b : Bool) → dir c.store d ≡ o → created d n f c o b ≡ Do given new → Adds (OnNames (Create d n f)) (Carried given) c new
+created_by : (at : ℕ) (d : Gfid) (n : List ℕ) (f : Gfid) (c : Contents) (given : Given) (new : Contents) (o : Option DirRecord) (b : Bool) → dir c.store d ≡ o → created d n f c o b ≡ Do given new → Adds at (OnNames (Create d n f)) (Carried given) c new
 unfolding is_done
-created_by d n f c given new None b e v = absurd (let z : false ≡ true = ap is_done v in cc)
-created_by d n f c given new (Some x) false e v = absurd (let z : false ≡ true = ap is_done v in cc)
-created_by d n f c given new (Some x) true e v = record {
+created_by at d n f c given new None b e v = absurd (let z : false ≡ true = ap is_done v in cc)
+created_by at d n f c given new (Some x) false e v = absurd (let z : false ≡ true = ap is_done v in cc)
+created_by at d n f c given new (Some x) true e v = record {
   dir = d;
   name = n;
   file = f;
@@ -121,30 +121,34 @@ created_by d n f c given new (Some x) true e v = record {
   locks = ap (λ (y : Outcome Contents). (left_by y c).locks) (sym v);
 }
 
-unchanged : (q : Request) (r : Reply) (c new : Contents) → step_of q r ≡ None → new ≡ c → Quiet q r c new
-unchanged q r c new step e = record { step = step; store = ap (λ (x : Contents). x.store) e; opens = ap (λ (x : Contents). x.opens) e }
+unchanged : (at : ℕ) (q : Request) (r : Reply) (c new : Contents) → step_of at q r ≡ None → new ≡ c → Quiet at q r c new
+unchanged at q r c new step e = record { step = step; store = ap (λ (x : Contents). x.store) e; opens = ap (λ (x : Contents). x.opens) e }
 
--- what a request that was permitted and served did: nothing but with locks; it made a file; or it is one that takes something away, or is of a linkto
-pub data Effect (q : Request) (r : Reply) (c new : Contents) : Type 0 where
-  IsQuiet : Quiet q r c new → Effect q r c new
-  IsCreate : Adds q r c new → Effect q r c new
-  Removes : IsRemoval q → Effect q r c new
-  TurnsLinkto : (n : NameRequest) → IsOfLinkto n → q ≡ OnNames n → Effect q r c new
+-- what a request that was permitted and served did: nothing but with locks; it made a file; or it is one that takes something away, or is of a linkto or of a directory
+pub data Effect (at : ℕ) (q : Request) (r : Reply) (c new : Contents) : Type 0 where
+  IsQuiet : Quiet at q r c new → Effect at q r c new
+  IsCreate : Adds at q r c new → Effect at q r c new
+  Removes : IsRemoval q → Effect at q r c new
+  TurnsLinkto : (n : NameRequest) → IsOfLinkto n → q ≡ OnNames n → Effect at q r c new
+  TurnsDir : IsOfDir q → Effect at q r c new
 
-effect_create : (d : Gfid) (n : List ℕ) (f : Gfid) (c : Contents) (r : Reply) (new : Contents) (o : Option DirRecord) (b : Bool) → dir c.store d ≡ o → ServesOrFails (created d n f c o b) c r new → Effect (OnNames (Create d n f)) r c new
-effect_create d n f c (Carried given) new o b e v = IsCreate (created_by d n f c given new o b e v)
-effect_create d n f c (Declined why) new o b e v = IsQuiet (unchanged _ _ c new refl v.1)
-effect_create d n f c (Wait holder) new o b e v = IsQuiet (unchanged _ _ c new refl v.1)
-effect_create d n f c Down new o b e v = IsQuiet (unchanged _ _ c new refl v)
-effect_create d n f c Failed new o b e v = IsQuiet (unchanged _ _ c new refl v)
-effect_create d n f c NoMemory new o b e v = IsQuiet (unchanged _ _ c new refl v)
+effect_create : (at : ℕ) (d : Gfid) (n : List ℕ) (f : Gfid) (c : Contents) (r : Reply) (new : Contents) (o : Option DirRecord) (b : Bool) → dir c.store d ≡ o → ServesOrFails (created d n f c o b) c r new → Effect at (OnNames (Create d n f)) r c new
+effect_create at d n f c (Carried given) new o b e v = IsCreate (created_by at d n f c given new o b e v)
+effect_create at d n f c (Declined why) new o b e v = IsQuiet (unchanged at _ _ c new refl v.1)
+effect_create at d n f c (Wait holder) new o b e v = IsQuiet (unchanged at _ _ c new refl v.1)
+effect_create at d n f c Down new o b e v = IsQuiet (unchanged at _ _ c new refl v)
+effect_create at d n f c Failed new o b e v = IsQuiet (unchanged at _ _ c new refl v)
+effect_create at d n f c NoMemory new o b e v = IsQuiet (unchanged at _ _ c new refl v)
 
-pub effect : (bricks : List (List ℕ)) (s : Scene) (b : ℕ) (q : Request) (c : Contents) (r : Reply) (new : Contents) → May s b q → ServesOrFails (row bricks s.who s.mine.number q c) c r new → Effect q r c new
-effect bricks s b (Lock key mode) c r new may v = IsQuiet (effect_quiet bricks s (Lock key mode) c r new tt v)
-effect bricks s b (Unlock key) c r new may v = IsQuiet (effect_quiet bricks s (Unlock key) c r new tt v)
-effect bricks s b (OnNames (Look d n)) c r new may v = IsQuiet (effect_quiet bricks s (OnNames (Look d n)) c r new tt v)
-effect bricks s b (OnNames (Dirinfo d)) c r new may v = IsQuiet (effect_quiet bricks s (OnNames (Dirinfo d)) c r new tt v)
-effect bricks s b (OnNames (Create d n f)) c r new may v = effect_create d n f c r new (dir c.store d) (is_bare (slot c.store (d, n)) && is_none (file c.store f)) refl v
+pub effect : (bricks : List (List ℕ)) (s : Scene) (b : ℕ) (q : Request) (c : Contents) (r : Reply) (new : Contents) → May s b q → ServesOrFails (row bricks s.who s.mine.number q c) c r new → Effect b q r c new
+effect bricks s b (Lock key mode) c r new may v = IsQuiet (effect_quiet bricks s b (Lock key mode) c r new tt v)
+effect bricks s b (Unlock key) c r new may v = IsQuiet (effect_quiet bricks s b (Unlock key) c r new tt v)
+effect bricks s b (OnNames (Look d n)) c r new may v = IsQuiet (effect_quiet bricks s b (OnNames (Look d n)) c r new tt v)
+effect bricks s b (OnNames (Dirinfo d)) c r new may v = IsQuiet (effect_quiet bricks s b (OnNames (Dirinfo d)) c r new tt v)
+effect bricks s b (OnNames (SetLayout d value)) c r new may v = TurnsDir tt
+effect bricks s b (OnNames (MakeDir d n g depth value)) c r new may v = TurnsDir tt
+effect bricks s b (OnNames (DropDir d n g)) c r new may v = TurnsDir tt
+effect bricks s b (OnNames (Create d n f)) c r new may v = effect_create b d n f c r new (dir c.store d) (is_bare (slot c.store (d, n)) && is_none (file c.store f)) refl v
 effect bricks s b (OnNames (MakeLinkto d n value)) c r new may v = TurnsLinkto (MakeLinkto d n value) tt refl
 effect bricks s b (OnNames (DropLinkto d n)) c r new may v = TurnsLinkto (DropLinkto d n) tt refl
 effect bricks s b (OnNames (Unlink d n f)) c r new may v = Removes tt

@@ -35,7 +35,7 @@ use Rattle.dht_invariant.proofs.Basics.{gfid_cases}
 use Rattle.dht_invariant.proofs.ClauseLocality.{reach_of, answer_shows, hops_grow}
 use Rattle.dht_invariant.proofs.Frames.{brick_is, kept_by, file_is_used, file_kept}
 use Rattle.dht_invariant.proofs.LessLaws.{file_sealed}
-use Rattle.dht_invariant.proofs.NoMoreLaws.{StoresNoMore, early_no_more, used_no_more, file_used_kept, opened_kept, taken_touches, no_dir_named, things_no_more}
+use Rattle.dht_invariant.proofs.NoMoreLaws.{StoresNoMore, early_no_more, used_no_more, file_used_kept, opened_kept, taken_touches, no_dir_named, no_node_named, things_no_more}
 use Rattle.dht_invariant.proofs.QuietKeeps.{at_most}
 use Rattle.dht_invariant.proofs.ServedLaws.{others_hold}
 
@@ -66,7 +66,7 @@ module _ (s t : Scene) (b : BrickNo) (f : Gfid) (r : Reply) (m : Guarantee s (re
   row = left f (s.disk.brick b.0) m.new gives (registrations (s.disk.brick b.0).opens f == 0) refl done
 
   tree : t.history.tree ≡ s.history.tree
-  tree = m.tree ∙ ap (λ (x : Reply). tree_by (step_of (Seal f) x) s.history.tree) real
+  tree = m.tree ∙ ap (λ (x : Reply). tree_by (step_of b.0 (Seal f) x) s.history.tree) real
 
   stays : {X : Type 0} (g : Contents → X) → g m.new ≡ g (s.disk.brick b.0) → (i : ℕ) → g (t.disk.brick i) ≡ g (s.disk.brick i)
   stays g same i = kept_by g s.disk t.disk b.0 m.new m.disk same i
@@ -140,7 +140,7 @@ module _ (s t : Scene) (b : BrickNo) (f : Gfid) (r : Reply) (m : Guarantee s (re
   used_before : (g : Gfid) → Used t.disk t.history.tree g → Used s.disk s.history.tree g
   used_before g h = elim (gfid_cases g f) [
     | inl q ↦ subst (Used s.disk s.history.tree) (sym q) (file_is_used s.disk s.history.tree f none.used)
-    | inr ne ↦ used_no_more s.disk t.disk stores s.history.tree t.history.tree g (ap (λ (u : Tree). u.bytes g) tree) (ap (λ (u : Tree). u.dirs g) tree) (ap (λ (v : FileView). v.sealed) (same_view g ne)) h
+    | inr ne ↦ used_no_more s.disk t.disk stores s.history.tree t.history.tree g (ap (λ (u : Tree). u.bytes g) tree) (ap (λ (u : Tree). u.dirs g) tree) (ap (λ (u : Tree). u.descents g) tree) (ap (λ (v : FileView). v.sealed) (same_view g ne)) h
   ]
 
   pub seal_leaves : Preserves s t
@@ -151,8 +151,8 @@ module _ (s t : Scene) (b : BrickNo) (f : Gfid) (r : Reply) (m : Guarantee s (re
           | inl q ↦ inr (subst (FileClause t.disk t.history.tree (most_hops t.history) s.claims) (sym q) file_now)
           | inr ne ↦ inl (other_file g ne)
         ])
-        (no_dir_named (reach_of s ask) b.0 s.disk t.disk refl refl refl) no_lock sound.kept.things;
-    early = early_no_more s.disk t.disk stores s.history t.history m.run (stays (λ (c : Contents). c.opens.registered) (ap (λ (o : Opens). o.registered) row.opens)) used_before sound.early;
+        (λ g. (no_dir_named (reach_of s ask) b.0 s.disk t.disk refl refl refl g, no_node_named (reach_of s ask) s.history.tree refl g)) no_lock sound.kept.things;
+    early = early_no_more s.disk t.disk stores s.history t.history m.run m.weights (stays (λ (c : Contents). c.opens.registered) (ap (λ (o : Opens). o.registered) row.opens)) used_before sound.early;
     used = used_before;
     touches = taken_touches s t.disk t.history.tree (record {
       stores = stores;
@@ -160,6 +160,7 @@ module _ (s t : Scene) (b : BrickNo) (f : Gfid) (r : Reply) (m : Guarantee s (re
       names = λ x. inr (ap (λ (u : Tree). u.names x) tree, λ i. slots_stay i x);
       files = λ g. inr (λ i. files_stay i g);
       dirs = λ g. ap (λ (u : Tree). u.dirs g) tree;
+      descents = λ g. ap (λ (u : Tree). u.descents g) tree;
       used = λ g. file_used_kept s.disk t.disk s.history.tree t.history.tree g m.disk.count (ap (λ (u : Tree). u.bytes g) tree) (λ i. files_stay i g) (stays_sealed g);
       sealed = stays_sealed;
     });

@@ -56,14 +56,14 @@ pub others_hold : (s t : Scene) (a : Ask) (r : Reply) → Guarantee s a r t → 
 others_hold s t a r m b key w ne = brick_keeps (λ (c : Contents). c.locks key w) s t a r m (locks_are_local _ s.who s.mine.number a.request (s.disk.brick a.brick.0) key w ne) b
 
 -- a request was carried out, or it stands for no step of the tree and changed nothing
-pub data Came (q : Request) (o : Outcome Contents) (old : Contents) (r : Reply) (new : Contents) : Type 0 where
-  WasDone : (given : Given) → r ≡ Carried given → o ≡ Do given new → Came q o old r new
-  WasNot : step_of q r ≡ None → new ≡ old → Came q o old r new
+pub data Came (b : ℕ) (q : Request) (o : Outcome Contents) (old : Contents) (r : Reply) (new : Contents) : Type 0 where
+  WasDone : (given : Given) → r ≡ Carried given → o ≡ Do given new → Came b q o old r new
+  WasNot : step_of b q r ≡ None → new ≡ old → Came b q o old r new
 
-pub came : (q : Request) (o : Outcome Contents) (old : Contents) (r : Reply) (new : Contents) → ServesOrFails o old r new → Came q o old r new
-came q o old (Carried given) new h = WasDone given refl h
-came q o old (Declined why) new h = WasNot refl h.1
-came q o old (Wait holder) new h = WasNot refl h.1
-came q o old Down new h = WasNot refl h
-came q o old Failed new h = WasNot refl h
-came q o old NoMemory new h = WasNot refl h
+pub came : (b : ℕ) (q : Request) (o : Outcome Contents) (old : Contents) (r : Reply) (new : Contents) → ServesOrFails o old r new → Came b q o old r new
+came b q o old (Carried given) new h = WasDone given refl h
+came b q o old (Declined why) new h = WasNot refl h.1
+came b q o old (Wait holder) new h = WasNot refl h.1
+came b q o old Down new h = WasNot refl h
+came b q o old Failed new h = WasNot refl h
+came b q o old NoMemory new h = WasNot refl h

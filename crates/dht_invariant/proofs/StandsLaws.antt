@@ -27,7 +27,7 @@ use Rattle.dht_section.specs.Shapes.{NameShape, Bare, Folder, Plain, Marked, Con
 use Rattle.dht_section.specs.Views.{visible, cores_of, links_to, view_of}
 use Rattle.dht_section.proofs.FileLaws.{main_record, live_by}
 use Rattle.dht_invariant.proofs.Basics.{none_some, some_same}
-use Rattle.dht_section.proofs.EarlyLaws.{nat_cases, here_at, here_off, stands_plainly}
+use Rattle.dht_section.proofs.EarlyLaws.{nat_cases, here_at, here_off, stands_plainly, Nowhere, Once, AsFolder}
 use Rattle.dht_invariant.proofs.Frames.{links_core}
 
 -- ---- truths
@@ -212,8 +212,9 @@ stands_of d s p k now = record {
 
 pub placed_of : (d : Disk) (s : History) (p : ℕ → Claim) (x : Entry) (f : Gfid) → Invariant d s p → Early d s → s.run ≡ 1 → s.tree.names x ≡ Some (IsFile f) → Placed d x
 placed_of d s p x f k now first told = elim (stands_plainly d x (s.tree.names x) (k.things.names x) (now.plain x)) [
-  | inl z ↦ absurd (let w : None ≡ Some (IsFile f) = sym z.node ∙ told in cc)
-  | inr z ↦ record {
+  | Nowhere z ↦ absurd (let w : None ≡ Some (IsFile f) = sym z.node ∙ told in cc)
+  | AsFolder z ↦ absurd (let w : Some (IsDir z.directory) ≡ Some (IsFile f) = sym z.stands.node ∙ told in cc)
+  | Once z ↦ record {
     brick = z.brick;
     there = z.there;
     holds = now.held x z.brick z.file first z.there (ap file_in z.slot);

@@ -13,7 +13,7 @@ use Rattle.dht_section.specs.Disk.{Disk, slot_at, file_at, dir_at}
 use Rattle.dht_section.specs.Names.{StandsAs}
 use Rattle.dht_section.specs.Rely.{IsFileUsed, IsNameless, ByBytes, ByRecord, BySeal, outline}
 use Rattle.dht_section.specs.Scene.{Scene, Guards, NameStands}
-use Rattle.dht_section.specs.Shapes.{NameShape, NameFits}
+use Rattle.dht_section.specs.Shapes.{NameShape, Folder, NameFits}
 use Rattle.dht_section.specs.Views.{core, cores_of, links_to, view_of}
 use Rattle.dht_invariant.specs.Makes.{Framed}
 use Rattle.dht_invariant.specs.Touches.{Touches, OwnsFile, Same}
@@ -21,6 +21,7 @@ use Rattle.dht_invariant.proofs.Basics.{gfid_cases, is_there, other_some}
 use Rattle.dht_section.proofs.EarlyLaws.{nat_cases}
 use Rattle.dht_section.proofs.SlotLaws.{entry_cases}
 use Rattle.dht_invariant.proofs.GrowsLaws.{grows_refl}
+use Rattle.dht_invariant.proofs.LayoutLaws.{planned_same}
 
 -- one slot that is guarded changed, and the record of one file whose names are all guarded
 pub record OneSlot (o : Scene) (p : Places) (x : Entry) (f : Option Gfid) (e : Disk) (u : Tree) : Type 0 where
@@ -34,6 +35,7 @@ pub record OneSlot (o : Scene) (p : Places) (x : Entry) (f : Option Gfid) (e : D
   pub owns : (g : Gfid) → f ≡ Some g → OwnsFile o g
   pub names : (y : Entry) → y ≢ x → u.names y ≡ o.history.tree.names y
   pub dirs : (g : Gfid) → u.dirs g ≡ o.history.tree.dirs g
+  pub descents : (g : Gfid) → u.descents g ≡ o.history.tree.descents g
   pub bytes : (g : Gfid) → o.history.tree.bytes g ≢ None → u.bytes g ≢ None
   pub recorded : (i : ℕ) (g : Gfid) → is_some (file_at o.disk i g) ≡ true → is_some (file_at e i g) ≡ true
   -- the slot becomes no name and no copy of a file that has none
@@ -103,7 +105,13 @@ module _ (o : Scene) (p : Places) (x : Entry) (f : Option Gfid) (e : Disk) (u : 
     ];
     outlines = λ b g l. file_by b g f refl;
     dirs = λ g b. inr (Same (dir_same b g));
+    both = λ y g on st. elim (entry_cases y x) [
+      | inl q ↦ inl (subst (Guards o) (sym q) m.guards)
+      | inr ne ↦ inr (inr (stands_other y (Folder g on) ne st))
+    ];
     known = λ g h. inr (m.dirs g ∙ h);
+    planned = λ g. planned_same o.disk e g o.history.weights o.history.weights m.framed.count refl (λ i. dir_same i g);
+    made = λ g h k. m.descents g ∙ k;
     used = file_used;
     sealed = λ g h. sealed_same g ∙ h;
     nameless = nameless_stays;

@@ -4,7 +4,7 @@ use Rattle.std.specs.Prelude.{Option, Some, None, ◌&&◌, ◌||◌, unwrap_or}
 use Rattle.dht_types.proofs.PutLaws.{put_same, put_other, exact_entry, exact_gfid}
 use Rattle.dht_types.specs.Put.{same_entry}
 use Rattle.dht_types.specs.Gfid.{Entry, same_gfid}
-use Rattle.dht_types.specs.Tree.{Tree, applied}
+use Rattle.dht_types.specs.Tree.{Tree, IsFile, IsDir, applied}
 use Rattle.dht_types.specs.declared.calls.TreeStep.TheVariants.{RemoveFile}
 use Rattle.dht_types.specs.declared.identifiers.BrickNo.{BrickNo}
 use Rattle.dht_types.specs.declared.identifiers.Gfid.{Gfid}
@@ -37,7 +37,7 @@ use Rattle.dht_section.specs.Shapes.{Bare, Plain, body, core_at}
 use Rattle.dht_section.specs.Truth.{plain}
 use Rattle.dht_section.specs.Views.{core, links_to, view_of}
 use Rattle.dht_invariant.specs.Laws.{Preserves}
-use Rattle.dht_invariant.specs.Locality.{NoHold, ALock, ARegistration, ASeal, NamesFile, ByFileRecord, ByFileName, ByRegistration, BySeal, NamesDir, ByDirRecord, ByDirName, ByParent, NamesLock, NameClause, FileClause, is_of}
+use Rattle.dht_invariant.specs.Locality.{NoHold, ALock, ARegistration, ASeal, NamesFile, ByFileRecord, ByFileName, ByRegistration, BySeal, IsNode, NamesDir, ByDirRecord, ByDirName, ByParent, NamesLock, NameClause, FileClause, is_of}
 use Rattle.dht_invariant.proofs.Basics.{gfid_cases, other_some, both_true, true_false, not_true}
 use Rattle.dht_section.proofs.EarlyLaws.{nat_cases, here_at, here_off}
 use Rattle.dht_section.proofs.SlotLaws.{slot_put, entry_cases}
@@ -89,13 +89,16 @@ module _ (s t : Scene) (b : BrickNo) (d : Gfid) (n : List ℕ) (f : Gfid) (r : R
   stands = subst (NameStands s (d, n)) may.takes.0 may.stands
 
   tree : t.history.tree ≡ applied (RemoveFile d n) s.history.tree
-  tree = m.tree ∙ ap (λ (x : Reply). tree_by (step_of (OnNames (Unlink d n f)) x) s.history.tree) real
+  tree = m.tree ∙ ap (λ (x : Reply). tree_by (step_of b.0 (OnNames (Unlink d n f)) x) s.history.tree) real
 
   bytes_same : (g : Gfid) → t.history.tree.bytes g ≡ s.history.tree.bytes g
   bytes_same g = ap (λ (u : Tree). u.bytes g) tree
 
   dirs_same : (g : Gfid) → t.history.tree.dirs g ≡ s.history.tree.dirs g
   dirs_same g = ap (λ (u : Tree). u.dirs g) tree
+
+  descents_same : (g : Gfid) → t.history.tree.descents g ≡ s.history.tree.descents g
+  descents_same g = ap (λ (u : Tree). u.descents g) tree
 
   stays : {X : Type 0} (g : Contents → X) → g m.new ≡ g (s.disk.brick b.0) → (i : ℕ) → g (t.disk.brick i) ≡ g (s.disk.brick i)
   stays g same i = kept_by g s.disk t.disk b.0 m.new m.disk same i
@@ -228,11 +231,15 @@ module _ (s t : Scene) (b : BrickNo) (d : Gfid) (n : List ℕ) (f : Gfid) (r : R
   ]
   no_dir g (ByParent x k there place turned) = let z : None ≡ Some k.dir = turned in cc
 
+  -- the tree has a file at the name
+  no_node : (g : Gfid) → IsNode (reach_of s ask) s.history.tree g → ⊥
+  no_node g k = let z : Some (IsFile f) ≡ Some (IsDir g) = sym stands.node ∙ (ap s.history.tree.names (sym (is_name k.entry k.slot)) ∙ k.node) in cc
+
   no_lock : (i : ℕ) (key : Key) → NamesLock (reach_of s ask) b.0 i key → ⊥
   no_lock i key h = let z : NoHold ≡ ALock key h.client = h.hold in cc
 
   used_before : (g : Gfid) → Used t.disk t.history.tree g → Used s.disk s.history.tree g
-  used_before g = used_no_more s.disk t.disk stores s.history.tree t.history.tree g (bytes_same g) (dirs_same g) (sealed_same g)
+  used_before g = used_no_more s.disk t.disk stores s.history.tree t.history.tree g (bytes_same g) (dirs_same g) (descents_same g) (sealed_same g)
 
   pub unlink_leaves : Preserves s t
   unlink_leaves = record {
@@ -245,8 +252,8 @@ module _ (s t : Scene) (b : BrickNo) (d : Gfid) (n : List ℕ) (f : Gfid) (r : R
           | inl q ↦ inr (subst (FileClause t.disk t.history.tree (most_hops t.history) s.claims) (sym q) file_now)
           | inr ne ↦ inl (other_file g ne)
         ])
-        no_dir no_lock sound.kept.things;
-    early = early_no_more s.disk t.disk stores s.history t.history m.run (λ i. ap (λ (o : Opens). o.registered) (opens_stay i)) used_before sound.early;
+        (λ g. (no_dir g, no_node g)) no_lock sound.kept.things;
+    early = early_no_more s.disk t.disk stores s.history t.history m.run m.weights (λ i. ap (λ (o : Opens). o.registered) (opens_stay i)) used_before sound.early;
     used = used_before;
     touches = taken_touches s t.disk t.history.tree (record {
       stores = stores;
@@ -257,6 +264,7 @@ module _ (s t : Scene) (b : BrickNo) (d : Gfid) (n : List ℕ) (f : Gfid) (r : R
       ];
       files = λ g. inr (λ i. files_stay i g);
       dirs = dirs_same;
+      descents = descents_same;
       used = λ g. file_used_kept s.disk t.disk s.history.tree t.history.tree g m.disk.count (bytes_same g) (λ i. files_stay i g) (λ h. sealed_same g ∙ h);
       sealed = λ g h. sealed_same g ∙ h;
     });

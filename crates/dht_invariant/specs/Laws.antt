@@ -1,10 +1,10 @@
 -- What is proved of the invariant.
-use Rattle.std.specs.Prelude.{ℕ, ◌<◌, ◌≤◌, ◌≡◌, nat_eq, Some, List, length}
+use Rattle.std.specs.Prelude.{ℕ, ◌<◌, ◌≤◌, ◌≡◌, ◌⊎◌, nat_eq, Some, None, List, length}
 use Rattle.dht_types.specs.Gfid.{Entry}
 use Rattle.dht_types.specs.Put.{put}
 use Rattle.dht_types.specs.Tree.{Tree, IsFile, applied}
 use Rattle.dht_types.specs.Volume.{HasWeight}
-use Rattle.dht_types.specs.History.{History, start, with_line}
+use Rattle.dht_types.specs.History.{History, IsOwn, start, with_line}
 use Rattle.dht_types.specs.declared.calls.TreeStep.TheVariants.{AddFile}
 use Rattle.dht_types.specs.declared.identifiers.BrickNo.{BrickNo}
 use Rattle.dht_types.specs.declared.identifiers.CallNo.{CallNo}
@@ -19,7 +19,7 @@ use Rattle.dht_brick.specs.declared.replies.Given.{Given}
 use Rattle.dht_brick.specs.declared.replies.Reply.{Reply}
 use Rattle.dht_brick.specs.declared.requests.FileRequest.TheVariants.{Drop}
 use Rattle.dht_brick.specs.declared.requests.NameRequest.{NameRequest}
-use Rattle.dht_brick.specs.declared.requests.NameRequest.TheVariants.{MakeLinkto, DropLinkto, Unlink}
+use Rattle.dht_brick.specs.declared.requests.NameRequest.TheVariants.{SetLayout, MakeDir, DropDir, MakeLinkto, DropLinkto, Unlink}
 use Rattle.dht_brick.specs.declared.requests.Request.{Request}
 use Rattle.dht_brick.specs.declared.requests.Request.TheVariants.{Seal, OnNames, OnFile}
 use Rattle.dht_section.specs.Claims.{Claim, MayClaim, no_claim}
@@ -125,6 +125,32 @@ RemovalsKeep =
     (s t : Scene) (a : Ask) (r : Reply)
     → IsRemoval a.request → Permitted s a → Guarantee s a r t → Sound s → Preserves s t
 
+-- a request that sets a layout, or that makes or drops a copy of a directory
+abbrev pub IsOfDir : Request → Type 0
+IsOfDir (OnNames (SetLayout d value)) = Unit {0}
+IsOfDir (OnNames (MakeDir d n g depth value)) = Unit {0}
+IsOfDir (OnNames (DropDir d n g)) = Unit {0}
+IsOfDir q = ⊥
+
+-- the gfid is one of the call's own, and the call has done a step by now
+pub record IsMine (s t : Scene) (g : Gfid) : Type 0 where
+  pub own : IsOwn s.history.run s.who s.mine.number g
+  pub did : t.mine.deeds ≡ None → ⊥
+
+-- what holds is kept, a gfid that comes into use is the call's own, and nothing is touched but what may be
+pub record Carries (s t : Scene) : Type 0 where
+  pub things : Things t.disk t.history.tree (most_hops t.history) t.claims
+  pub early : Early t.disk t.history
+  pub used : (g : Gfid)
+      → Used t.disk t.history.tree g → Used s.disk s.history.tree g ⊎ IsMine s t g
+  pub touches : Touches s t.disk t.history.tree
+
+-- such a request, however it was answered
+abbrev pub DirectoriesKeep : Type 0
+DirectoriesKeep =
+    (s t : Scene) (a : Ask) (r : Reply)
+    → IsOfDir a.request → Guarantee s a r t → Sound s → Permitted s a → OnlyMine s t → Carries s t
+
 -- nobody claims anything
 abbrev pub no_claims : ℕ → Claim
 no_claims c = no_claim
@@ -187,7 +213,7 @@ RequestsLeaveOthers =
     (client : ClientNo) (call : CallNo) (b : ℕ) (q : Request) (d e : Disk)
     (t : Tree) (low top : ℕ) (claims : ℕ → Claim)
     → CarriesOut client call b q d e → low ≤ top
-    → OthersStand (reach client call q (d.brick b).store) b d e t (tree_by (request_step q) t) low top claims
+    → OthersStand (reach client call q (d.brick b).store) b d e t (tree_by (request_step b q) t) low top claims
 
 -- and so does one that was answered otherwise
 abbrev pub AnswersLeaveOthers : Type 0

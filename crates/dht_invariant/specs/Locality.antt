@@ -3,7 +3,7 @@ use Rattle.std.specs.Prelude.{ℕ, Bool, true, ◌≡◌, ◌≢◌, ◌⊎◌, 
 use Rattle.std.specs.FinMap.{get}
 use Rattle.std.specs.Option.{option_map}
 use Rattle.dht_types.specs.Gfid.{Entry, root}
-use Rattle.dht_types.specs.Tree.{Tree}
+use Rattle.dht_types.specs.Tree.{Tree, IsDir}
 use Rattle.dht_types.specs.declared.identifiers.Gfid.{Gfid}
 use Rattle.dht_types.specs.declared.identifiers.CallNo.{CallNo}
 use Rattle.dht_types.specs.declared.identifiers.ClientNo.{ClientNo}
@@ -126,6 +126,12 @@ pub data NamesDir (p : Reach) (b : ℕ) (d e : Disk) (g : Gfid) : Type 0 where
   ByParent : (r : DirRecord) (k : EntryKey) → dir_at d b g ≡ Some r → r.place ≡ Some k
       → p.turned ≡ Some k.dir → NamesDir p b d e g
 
+-- or which the tree has at the slot's name
+pub record IsNode (p : Reach) (t : Tree) (g : Gfid) : Type 0 where
+  pub entry : Entry
+  pub slot : p.stored.slot ≡ Some entry
+  pub node : t.names entry ≡ Some (IsDir g)
+
 -- the lock of a key on a brick, if it is the one that it asks for or gives back
 pub record NamesLock (p : Reach) (b i : ℕ) (key : Key) : Type 0 where
   pub there : i ≡ b
@@ -161,7 +167,7 @@ abbrev pub FileClause : Disk → Tree → ℕ → (ℕ → Claim) → Gfid → T
 FileClause d t top claims f = FileInvariant d.count top (places_of claims f) (view_of d f) (t.bytes f)
 
 abbrev pub DirClause : Disk → Tree → Gfid → Type 0
-DirClause d t g = DirInvariant d.count g (dir_view d g) (t.dirs g)
+DirClause d t g = DirInvariant d.count g (dir_view d g) (t.dirs g) (t.descents g)
 
 abbrev pub LockClause : Disk → (ℕ → Claim) → ℕ → Key → Type 0
 LockClause d claims b key = LockInvariant b key (holders d b key) claims
@@ -180,7 +186,8 @@ pub record ClausesStand (d e : Disk) (t u : Tree) (low top : ℕ) (p q : ℕ →
       → view_of e f ≡ view_of d f → u.bytes f ≡ t.bytes f → places_of q f ≡ places_of p f
       → FileClause d t low p f → FileClause e u top q f
   pub dirs : (g : Gfid)
-      → SameDir (dir_view d g) (dir_view e g) → u.dirs g ≡ t.dirs g → DirClause d t g → DirClause e u g
+      → SameDir (dir_view d g) (dir_view e g) → u.dirs g ≡ t.dirs g → u.descents g ≡ t.descents g
+      → DirClause d t g → DirClause e u g
   pub locks : (b : ℕ) (key : Key)
       → holders e b key ≡ holders d b key
       → ((c : ℕ) → Listed (p c).locks b key → Listed (q c).locks b key)
@@ -196,7 +203,8 @@ pub record OthersStand (p : Reach) (b : ℕ) (d e : Disk) (t u : Tree) (low top 
   pub names : (x : Entry) → p.stored.slot ≢ Some x → NameClause d t x → NameClause e u x
   pub files : (f : Gfid)
       → (NamesFile p b d e f → ⊥) → FileClause d t low claims f → FileClause e u top claims f
-  pub dirs : (g : Gfid) → (NamesDir p b d e g → ⊥) → DirClause d t g → DirClause e u g
+  pub dirs : (g : Gfid)
+      → (NamesDir p b d e g → ⊥) → (IsNode p t g → ⊥) → DirClause d t g → DirClause e u g
   pub locks : (i : ℕ) (key : Key)
       → (NamesLock p b i key → ⊥) → LockClause d claims i key → LockClause e claims i key
   pub housed : (x : Entry) (i : ℕ) → p.stored.slot ≢ Some x → HousedClause d x i → HousedClause e x i

@@ -1,16 +1,17 @@
 -- What one client's request may touch: what it guards by a lock, and what nobody's knowledge rests on.
 -- What another client touches is what others may do.
-use Rattle.std.specs.Prelude.{ℕ, true, ◌<◌, ◌≡◌, ◌≢◌, ◌⊎◌, Some, None}
+use Rattle.std.specs.Prelude.{ℕ, Bool, true, ◌<◌, ◌≡◌, ◌≢◌, ◌⊎◌, Some, None}
 use Rattle.dht_types.specs.Gfid.{Entry}
-use Rattle.dht_types.specs.Tree.{Tree}
+use Rattle.dht_types.specs.Tree.{Tree, Descent}
 use Rattle.dht_types.specs.declared.identifiers.Gfid.{Gfid}
 use Rattle.dht_types.specs.declared.locks.Key.{Key}
 use Rattle.dht_types.specs.declared.stored.DirRecord.{DirRecord}
 use Rattle.dht_section.specs.Disk.{Disk, slot_at, file_at, dir_at, holders}
 use Rattle.dht_section.specs.Names.{StandsAs}
-use Rattle.dht_section.specs.Rely.{AllPlanned, CopyStays, IsFileUsed, IsNameless, outline}
+use Rattle.dht_section.specs.Planned.{AllPlanned}
+use Rattle.dht_section.specs.Rely.{CopyStays, IsFileUsed, IsNameless, outline}
 use Rattle.dht_section.specs.Scene.{Scene, HoldsAlone, Guards, NameStands}
-use Rattle.dht_section.specs.Shapes.{NameShape, Grows}
+use Rattle.dht_section.specs.Shapes.{NameShape, Folder, Grows}
 use Rattle.dht_section.specs.Views.{core, cores_of, links_to, view_of}
 
 -- who owns a file's records: each name that is the file's is guarded
@@ -39,7 +40,15 @@ pub record Touches (o : Scene) (e : Disk) (u : Tree) : Type 0 where
   pub outlines : (b : ℕ) (f : Gfid)
       → b < o.disk.count → OwnsFile o f ⊎ (outline (file_at e b f) ≡ outline (file_at o.disk b f))
   pub dirs : (g : Gfid) (b : ℕ) → HoldsAlone o g ⊎ DirStays o e b g
+  -- a name that is a directory's keeps its copies, unless its lock is mine or that of the directory
+  pub both : (x : Entry) (g : Gfid) (on : ℕ → Bool)
+      → NameStands o x (Folder g on)
+      → Guards o x ⊎ HoldsAlone o g ⊎ StandsAs e.count (cores_of e x) (u.names x) (Folder g on)
   pub known : (g : Gfid) → o.history.tree.dirs g ≡ true → HoldsAlone o g ⊎ (u.dirs g ≡ true)
+  pub planned : (g : Gfid)
+      → AllPlanned o.disk o.history.weights g → AllPlanned e o.history.weights g
+  pub made : (g : Gfid) (x : Descent)
+      → o.history.tree.descents g ≡ Some x → u.descents g ≡ Some x
   pub used : (f : Gfid) → IsFileUsed o.disk o.history.tree f → IsFileUsed e u f
   pub sealed : (f : Gfid) → (view_of o.disk f).sealed ≡ true → (view_of e f).sealed ≡ true
   pub nameless : (f : Gfid) → IsNameless o.disk o.history.tree f → IsNameless e u f

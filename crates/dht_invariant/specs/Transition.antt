@@ -1,7 +1,8 @@
 -- What happens between two moments, as the invariant and the other clients see it.
 use Rattle.std.specs.Prelude.{ℕ, ◌<◌, ◌≤◌, ◌≡◌, ◌≢◌, ◌⊎◌, ◌^◌, nat_eq, Option, Some, None}
 use Rattle.dht_types.specs.Put.{put}
-use Rattle.dht_types.specs.History.{History, PendingCall, tells}
+use Rattle.dht_types.specs.Counted.{CallsCounted}
+use Rattle.dht_types.specs.History.{History, PendingCall, tells, with_line}
 use Rattle.dht_types.specs.declared.identifiers.ClientNo.{ClientNo}
 use Rattle.dht_types.specs.declared.lines.Line.{Line}
 use Rattle.dht_brick.specs.Events.{freed}
@@ -25,11 +26,13 @@ pub record Transition (c : ℕ) (d : Disk) (s : History) (p : ℕ → Claim) (e 
   pub pending : (w : ℕ) → w ≢ c → t.pending w ≡ s.pending w
   pub claims : (w : ℕ) → w ≢ c → q w ≡ p w
   pub elsewhere : (b : ℕ) → d.count ≤ b → e.brick b ≡ d.brick b
-  pub others : (w : ClientNo) (r : PendingCall) → w.0 ≢ c → Rely (scene d s p w r) (scene e t q w r)
+  pub others : (w : ClientNo) (r : PendingCall)
+      → w.0 ≢ c → s.pending w.0 ≡ Some r → Rely (scene d s p w r) (scene e t q w r)
 
 -- of the calls only my own went on
 pub record OnlyMine (s t : Scene) : Type 0 where
   pub calls : t.history.calls ≡ s.history.calls
+  pub counts : CallsCounted s.history → CallsCounted t.history
   pub pending : t.history.pending ≡ put nat_eq s.history.pending s.who.0 (Some t.mine)
   pub point : t.history.past t.history.size ≡ t.history.tree
   pub numbered : s.mine.number.0 ≤ s.history.calls
@@ -50,6 +53,7 @@ pub record IsQuiet (c : ℕ) (s : History) (x : Line) : Type 0 where
   pub weights : (tells s x).weights ≡ s.weights
   pub run : (tells s x).run ≡ s.run
   pub calls : s.calls ≤ (tells s x).calls
+  pub counts : CallsCounted s → CallsCounted (with_line s x)
   pub pending : (w : ℕ) → w ≢ c → (tells s x).pending w ≡ s.pending w
   pub own : (r : PendingCall)
       → (tells s x).pending c ≡ Some r → r.deeds ≡ None

@@ -1,6 +1,7 @@
 //! Laws of the invariant. They do nothing.
 
 ghost use Rattle.dht_invariant.specs.Laws.{CreateKeeps, TransitionLaws, LinktosKeep, RemovalsKeep};
+ghost use Rattle.dht_invariant.specs.Laws.{DirectoriesKeep};
 ghost use Rattle.dht_invariant.specs.Laws.{RowsAreLocal, RequestsAreLocal};
 ghost use Rattle.dht_invariant.specs.Laws.{ClausesAreLocal, RequestsLeaveOthers, AnswersLeaveOthers};
 ghost use Rattle.dht_invariant.specs.Laws.{NewBricksMeet, RemountsKeep, RemountsInPartKeep};
@@ -27,6 +28,13 @@ pub fn a_linkto_keeps_each_thing()
 /// thing, and touches nothing but its guarded name, its nameless file or the file's seal.
 pub fn a_removal_keeps_each_thing()
     ensures { RemovalsKeep }
+{}
+
+/// A layout that is set and a copy of a directory that is made or dropped, where they are
+/// permitted, carried out or not, keep the invariant of each thing, and touch nothing but the
+/// directory and its name; a gfid that comes into use is the call's own.
+pub fn a_directory_request_keeps_each_thing()
+    ensures { DirectoriesKeep }
 {}
 
 /// A request that a brick carries out changes at most one slot, one directory record, one file

@@ -20,8 +20,7 @@ use dht_types::identifiers::{BrickNo, Gfid};
 use dht_types::saved::{Saved, SavedDir, SavedSlots};
 use dht_types::stored::DirRecord;
 use dht_types::volumes::Volume;
-use dht_xattr::plan::{a_plan_has_each_hash_once, plan};
-use dht_xattr::range::encode;
+use dht_xattr::plan::plan;
 use std::alloc::{AllocError, Global};
 
 /// The attribute of the root that is planned for a brick.
@@ -34,11 +33,9 @@ fn planned_value(
     ensures value { IfOk result (λ v. v ≡ planned_value volume.now.weights root brick.0) }
     ensures text { IfOk result (λ v. IfSome v IsValue) }
 {
-    a_plan_has_each_hash_once();
-    volume.bricks();
-    match plan(volume, Gfid::ROOT).as_slice()[usize::from(brick.0)] {
+    match plan(volume, Gfid::ROOT).value(brick) {
         None => Ok(None),
-        Some(range) => Ok(Some(Bytes::new(encode(range).to_vec(alloc)?))),
+        Some(value) => Ok(Some(Bytes::new(Vec::from_slice(alloc, value.as_slice())?))),
     }
 }
 

@@ -14,13 +14,14 @@ ghost use Rattle.dht_names.specs.Kept.{tables_in, main_of};
 ghost use Rattle.dht_names.specs.Served.{Meets, Changes, ChangesAlone};
 
 use crate::brick_tables::Tables;
-use crate::dirs::copied;
+use crate::dirs::stored;
 use crate::kept::KeptMain;
 use dht_brick::files::FileRecords;
 use dht_brick::replies::{Given, Reply, SlotShown, Why};
 use dht_guard::State;
 use dht_types::bytes::Bytes;
 use dht_types::identifiers::{BrickNo, Gfid};
+use dht_types::layouts::LayoutValue;
 use dht_types::linktos::LinktoValue;
 use dht_types::names::EntryKey;
 use dht_types::stored::{DirRecord, Standby};
@@ -55,7 +56,7 @@ impl Tables {
         key: &EntryKey,
         made: Gfid,
         depth: u16,
-        value: &Option<Bytes>,
+        value: &Option<LayoutValue>,
     ) -> Reply
         ensures { ChangesAlone (NameRequest.MakeDir key.now.dir key.now.name made depth value.now)
             (tables_in self.old) result (tables_in self.new) }
@@ -76,7 +77,7 @@ impl Tables {
         key: &EntryKey,
         made: Gfid,
         depth: u16,
-        value: &Option<Bytes>,
+        value: &Option<LayoutValue>,
     ) -> Result<(), AllocError>
         ensures ok { OnOk result (tables_in self.new ≡ record (tables_in self.old) {
           dirs = insert (tables_in self.old).dirs made (record { place = Some key.now; depth = depth; value = value.now });
@@ -88,7 +89,7 @@ impl Tables {
         let record = DirRecord {
             place: Some(*key),
             depth,
-            value: copied(self.alloc, value)?,
+            value: stored(self.alloc, value)?,
         };
         let old = self.dirs.put(made, record)?;
         match self.slots.put_main(key, KeptMain::Dir(made)) {

@@ -12,6 +12,7 @@ ghost use Rattle.dht_names.specs.Kept.{dirs_in};
 use dht_brick::order::gfids_from;
 use dht_types::bytes::Bytes;
 use dht_types::identifiers::{BrickNo, Gfid};
+use dht_types::layouts::LayoutValue;
 use dht_types::lines::DumpLine;
 use dht_types::stored::DirRecord;
 use std::alloc::{AllocError, Global};
@@ -25,6 +26,19 @@ pub(crate) fn copied(alloc: Global, value: &Option<Bytes>) -> Result<Option<Byte
     match value {
         None => Ok(None),
         Some(value) => Ok(Some(value.copied(alloc)?)),
+    }
+}
+
+/// The value of a request, as a record stores it: in memory of its own.
+pub(crate) fn stored(
+    alloc: Global,
+    value: &Option<LayoutValue>,
+) -> Result<Option<Bytes>, AllocError>
+    ensures { IfOk result (λ v. v ≡ value.now) }
+{
+    match value {
+        None => Ok(None),
+        Some(value) => Ok(Some(Bytes::new(Vec::from_slice(alloc, value.as_slice())?))),
     }
 }
 

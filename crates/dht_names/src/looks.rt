@@ -13,13 +13,13 @@ ghost use Rattle.dht_names.specs.Kept.{tables_in};
 ghost use Rattle.dht_names.specs.Served.{MeetsRow};
 
 use crate::brick_tables::Tables;
-use crate::dirs::copied;
+use crate::dirs::{copied, stored};
 use dht_brick::files::FileRecords;
 use dht_brick::replies::{DirInfo, FileLook, Given, Look, MainShown, Reply, SlotShown, Why};
 use dht_brick::shapes::Shape;
 use dht_guard::State;
-use dht_types::bytes::Bytes;
 use dht_types::identifiers::{BrickNo, Gfid};
+use dht_types::layouts::LayoutValue;
 use dht_types::names::{EntryKey, Name};
 use dht_types::stored::{DirRecord, Main, Slot};
 use std::alloc::AllocError;
@@ -151,7 +151,7 @@ impl Tables {
     }
 
     /// Gives a directory's record this attribute, or none.
-    pub(crate) fn set_layout(&mut self, dir: Gfid, value: &Option<Bytes>) -> Reply
+    pub(crate) fn set_layout(&mut self, dir: Gfid, value: &Option<LayoutValue>) -> Reply
         ensures { (f : Files)
             → MeetsRow (NameRequest.SetLayout dir value.now) (tables_in self.old) f result
             (tables_in self.new) f }
@@ -159,7 +159,7 @@ impl Tables {
         if !self.dirs.contains(dir) {
             return Reply::Refused(Why::Nodir);
         }
-        let Ok(value) = copied(self.alloc, value) else {
+        let Ok(value) = stored(self.alloc, value) else {
             return Reply::NoMemory;
         };
         self.dirs.set_value(dir, value);

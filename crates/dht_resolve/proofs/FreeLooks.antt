@@ -6,7 +6,6 @@ use Rattle.dht_types.specs.History.{Deeds, HasPoint, Tells}
 use Rattle.dht_types.specs.Tree.{Tree, Node, IsFile, IsDir, Refuse, says, looked_up as tree_says, answer_of}
 use Rattle.dht_types.specs.declared.calls.Answer.{Answer}
 use Rattle.dht_types.specs.declared.calls.Answer.TheVariants as answer
-use Rattle.dht_types.specs.declared.calls.Call.{Call}
 use Rattle.dht_types.specs.declared.calls.Call.TheVariants.{Lookup}
 use Rattle.dht_types.specs.declared.errors.Errno.TheVariants.{Estale}
 use Rattle.dht_types.specs.declared.identifiers.Gfid.{Gfid}
@@ -18,17 +17,18 @@ use Rattle.dht_brick.specs.declared.replies.Reply.{Reply}
 use Rattle.dht_brick.specs.declared.replies.Reply.TheVariants as reply
 use Rattle.dht_section.proofs.SceneLaws.{deeds_quiet, tree_quiet}
 use Rattle.dht_section.proofs.ShownLaws.{look_main}
+use Rattle.dht_section.specs.AsCall.{as_call}
 use Rattle.dht_section.specs.Disk.{slot_at}
-use Rattle.dht_section.specs.Location.{entry_at, scope_at}
+use Rattle.dht_section.specs.Location.{entry_at}
 use Rattle.dht_section.specs.Looks.{main_shown}
 use Rattle.dht_section.specs.Moves.{Guarantee}
 use Rattle.dht_section.specs.Replies.{fault_of}
 use Rattle.dht_section.specs.Scene.{Scene, Sound}
-use Rattle.dht_section.specs.SectionLaws.{bricks_are}
 use Rattle.dht_section.specs.Shapes.{NameShape, Bare, Folder, Plain, Marked, Contested, Standing, Copied, Committed, here, when_on, main_at, node_of}
 use Rattle.dht_section.specs.Views.{visible}
 use Rattle.dht_section.specs.declared.location.Location.{Location}
 use Rattle.dht_resolve.specs.Lookup.{Seeks, look_ask}
+use Rattle.dht_resolve.specs.LookupLaws.{room_count}
 use Rattle.dht_resolve.specs.declared.lookup.Sought.{Sought}
 use Rattle.dht_section.specs.declared.section.Prepared.{Prepared}
 
@@ -100,27 +100,36 @@ shown_sound reply.Down m e = absurd (let z : None ≡ Some m = e in cc)
 shown_sound reply.Failed m e = absurd (let z : None ≡ Some m = e in cc)
 shown_sound reply.NoMemory m e = absurd (let z : None ≡ Some m = e in cc)
 
--- a look that shows a file or a directory has the point of that answer
-pub look_point : (x : Sought) (w : Prepared) (m : Main) (node : Node) (r : Reply) (at : ℕ) (s t : Scene) → main_shown r ≡ Some m → told m ≡ Some node → Sound s → Sound t → at ≡ t.history.size → Seeks x.location w x.brick s → Guarantee s (look_ask x) r t → HasPoint t.history t.mine (Some at) (node_answer node)
-look_point x w m node r at s t shown tells before after line k v =
+-- what is known after a look that shows a file or a directory
+pub record LookTold (x : Sought) (node : Node) (at : ℕ) (t : Scene) : Type 0 where
+  pub point : HasPoint t.history (as_call (Lookup x.location.directory x.location.name) t).mine (Some at) (node_answer node)
+  pub names : t.history.tree.names (entry_at x.location) ≡ Some node
+  pub deeds : t.mine.deeds ≡ None
+
+-- the answer has its point there, and the name is that still
+pub look_told : (x : Sought) (w : Prepared) (m : Main) (node : Node) (r : Reply) (at : ℕ) (s t : Scene) → main_shown r ≡ Some m → told m ≡ Some node → Sound s → Sound t → at ≡ t.history.size → Seeks x.location w x.brick s → Guarantee s (look_ask x) r t → LookTold x node at t
+look_told x w m node r at s t shown tells before after line k v =
     let l : Location = x.location in
     let e : Entry = entry_at l in
-    let bricks = bricks_are (scope_at l) s before k.waits.fresh.scope in
+    let bricks = room_count l w s before k.waits in
     let within = k.within in
     let there : x.brick.0 < s.disk.count = omega arith in
     let main : (slot_at s.disk x.brick.0 e).main ≡ Some m = sym (look_main e x.brick s t r before there (shown_sound r m shown) v) ∙ shown in
     let names = main_told s e x.brick.0 m node before there main tells in
     let begun = after.begun in
-    let now : t.history.past at ≡ s.history.tree = ap t.history.past line ∙ (after.kept.point ∙ tree_quiet s t _ r tt v) in
-    let deeds : t.mine.deeds ≡ None = deeds_quiet s t _ r tt v ∙ k.waits.fresh.deeds in
-    let call : t.mine.call ≡ Lookup l.directory l.name = v.mine.call ∙ k.waits.call in
+    let same : t.history.tree ≡ s.history.tree = tree_quiet s t _ r tt v in
+    let now : t.history.past at ≡ s.history.tree = ap t.history.past line ∙ (after.kept.point ∙ same) in
+    let deeds : t.mine.deeds ≡ None = deeds_quiet s t _ r tt v ∙ k.waits.can.fresh.deeds in
     record {
-      point = at;
-      printed = refl;
-      after = omega arith;
-      before = omega arith;
-      tells = subst (λ (o : Option Deeds). Tells t.history t.mine.call o at (node_answer node)) (sym deeds)
-          (λ (g : Gfid). ap (λ (o : Call Gfid). answer_of (says (t.history.past at) o g)) call
-          ∙ (ap (λ (p : Tree). answer_of (says p (Lookup l.directory l.name) g)) now
-          ∙ says_told s.history.tree l.directory l.name node g (main_housed s e x.brick.0 m before there main) names));
+      point = record {
+        point = at;
+        printed = refl;
+        after = omega arith;
+        before = omega arith;
+        tells = subst (λ (o : Option Deeds). Tells t.history (Lookup l.directory l.name) o at (node_answer node)) (sym deeds)
+            (λ (g : Gfid). ap (λ (p : Tree). answer_of (says p (Lookup l.directory l.name) g)) now
+            ∙ says_told s.history.tree l.directory l.name node g (main_housed s e x.brick.0 m before there main) names);
+      };
+      names = ap (λ (p : Tree). p.names e) same ∙ names;
+      deeds = deeds;
     }

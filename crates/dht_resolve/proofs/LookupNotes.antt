@@ -29,7 +29,8 @@ use Rattle.dht_section.specs.Section.{fault_now, held_holder, held_layout, held_
 use Rattle.dht_section.specs.Shapes.{either}
 use Rattle.dht_section.specs.Stages.{MatchTurn}
 use Rattle.dht_section.specs.Want.{claimed}
-use Rattle.dht_section.specs.declared.closing.Closing.{Closing}
+use Rattle.dht_section.specs.Release.{release_after}
+use Rattle.dht_section.specs.declared.release.Release.{Release}
 use Rattle.dht_section.specs.declared.location.Location.{Location}
 use Rattle.dht_section.specs.declared.looks.Place.{Place}
 use Rattle.dht_section.specs.declared.looks.What.{What}
@@ -43,7 +44,8 @@ use Rattle.dht_section.specs.declared.section.Section.{Section}
 use Rattle.dht_section.specs.declared.section.Section.TheVariants.{Locking, Looking, Unlocking}
 use Rattle.dht_resolve.specs.Found.{IsDirFound, IsFound, IsFreeLook, ShowsDir, ShowsFile, shown_as, shown_main}
 use Rattle.dht_resolve.specs.Lookup.{aimed, aimed_at, ended_turn, found_answer, holder_in, lookup_fault, lookup_layout, lookup_stage, lookup_taught, survey_taught}
-use Rattle.dht_resolve.specs.Turns.{answers_file, closing_turned, found_by, holder_showed, laid_by, gone, linked_showed, lookup_after, placed_by, section_turned, survey_answered, surveyed, unless_fault, wants_linkto}
+use Rattle.dht_resolve.specs.Turns.{answers_file, found_by, release_turned, holder_showed, laid_by, gone, linked_showed, lookup_after, placed_by, section_turned, survey_answered, surveyed, unless_fault, wants_linkto}
+use Rattle.dht_resolve.specs.declared.lookup.Answered.{Answered}
 use Rattle.dht_resolve.specs.declared.lookup.Lookup.{Lookup}
 use Rattle.dht_resolve.specs.declared.lookup.Lookup.TheVariants.{Surveying, LookingAtHolder, FollowingLinkto, LookingEverywhere, LayingLinkto, Ending}
 use Rattle.dht_resolve.specs.declared.lookup.Misplaced.{Misplaced}
@@ -81,14 +83,14 @@ survey_learns l p b old r at = by (shows_gone l.directory b r) (is_shown r)
     ranges : List (Option Range)
     ranges = lengthened old (range_shown r)
 
-    by : (v w : Bool) → MatchTurn (ended_turn (if v then gone at None else (if w then Go (surveyed l p b (lengthened old (range_shown r))) else Go (Surveying l p b old)))) (λ n. lookup_layout n ≡ either (survey_taught v w l b (lengthened old (range_shown r))) None) (λ d. d.layout ≡ None)
+    by : (v w : Bool) → MatchTurn (ended_turn (if v then gone l at None else (if w then Go (surveyed l p b (lengthened old (range_shown r))) else Go (Surveying l p b old)))) (λ n. lookup_layout n ≡ either (survey_taught v w l b (lengthened old (range_shown r))) None) (λ d. d.layout ≡ None)
     by true w = refl
     by false true = surveyed_learns l p b ranges (nat_le (l.bricks - b.0) 1) ∙ as_taught (nat_le (l.bricks - b.0) 1) ranges
     by false false = refl
 
-stop_learns : (m : Lookup) (learned : Option (List (Option Range))) (turn : Turn Lookup Resolved) (r : Reply) (o : Option Errno) → lookup_layout m ≡ learned → Learned m r turn → Learned m r (unless_fault o learned turn)
-stop_learns m learned turn r None e h = h
-stop_learns m learned turn r (Some x) e h = sym e
+stop_learns : (m : Lookup) (l : Location) (learned : Option (List (Option Range))) (turn : Turn Lookup Resolved) (r : Reply) (o : Option Errno) → lookup_layout m ≡ learned → Learned m r turn → Learned m r (unless_fault o l learned turn)
+stop_learns m l learned turn r None e h = h
+stop_learns m l learned turn r (Some x) e h = sym e
 
 holder_learns : (x : Sought) (p : Prepared) (shown : Shown) (r : Reply) (at : ℕ) → Learned (LookingAtHolder x p) r (holder_showed x p shown at)
 holder_learns x p Nothing r at = refl
@@ -133,19 +135,19 @@ laid_learns y r None = by (is_carried (reply_kind r))
     by false = refl
 laid_learns y r (Some e) = refl
 
-closing_learns : (c : Closing) (place : Option BrickNo) (learned : Option (List (Option Range))) (r : Reply) (v : Bool) → Learned (Ending c place learned) r (closing_turned (if v then Go (record { scope = c.scope; place = c.place - 1; finish = c.finish }) else Done c.finish) place learned)
-closing_learns c place learned r true = refl
-closing_learns c place learned r false = refl
+release_learns : (m : Release) (x : Answered) (r : Reply) (turn : Turn Release Prepared) → Learned (Ending m x) r (release_turned turn x)
+release_learns m x r (Go n) = refl
+release_learns m x r (Done p) = refl
 
 pub lookup_learns : (m : Lookup) (r : Reply) (at : ℕ) → Learned m r (lookup_after m r at)
-lookup_learns (Surveying l p b ranges) r at = stop_learns (Surveying l p b ranges) None _ r (fault_of r) refl (survey_learns l p b ranges r at)
-lookup_learns (LookingAtHolder x p) r at = stop_learns (LookingAtHolder x p) x.learned _ r (fault_of r) refl
+lookup_learns (Surveying l p b ranges) r at = stop_learns (Surveying l p b ranges) l None _ r (fault_of r) refl (survey_learns l p b ranges r at)
+lookup_learns (LookingAtHolder x p) r at = stop_learns (LookingAtHolder x p) x.location x.learned _ r (fault_of r) refl
     (if_learns (LookingAtHolder x p) (LookingAtHolder x p) _ r (is_shown r) (holder_learns x p (shown_as x.location.bricks r) r at) refl)
-lookup_learns (FollowingLinkto x p) r at = stop_learns (FollowingLinkto x p) x.learned _ r (fault_of r) refl
+lookup_learns (FollowingLinkto x p) r at = stop_learns (FollowingLinkto x p) x.location x.learned _ r (fault_of r) refl
     (if_learns (FollowingLinkto x p) (FollowingLinkto x p) _ r (is_shown r) (linked_learns x p (shown_as x.location.bricks r) r at) refl)
 lookup_learns (LookingEverywhere l m learned) r at = section_learns l m learned (section_after m r at) r (taught_at (entry_at l) m r at 0)
 lookup_learns (LayingLinkto y) r at = laid_learns y r (fault_of r)
-lookup_learns (Ending c place learned) r at = closing_learns c place learned r (nat_lt 0 c.place)
+lookup_learns (Ending m x) r at = release_learns m x r (release_after m)
 
 -- ---- the error that it notes
 
@@ -154,11 +156,11 @@ Notes m r turn = NotesFault lookup_fault m (lookup_stage m).asks.request r (ende
 
 -- a stage before any lock notes the error of its reply
 abbrev Noted : Option Errno → Turn Lookup Resolved → Type 0
-Noted o turn = MatchTurn turn (λ n. lookup_fault n ≡ o) (λ d. brick_fault d.finish.answer ≡ o)
+Noted o turn = MatchTurn turn (λ n. lookup_fault n ≡ o) (λ d. brick_fault d.answered.finish.answer ≡ o)
 
-stop_notes : (learned : Option (List (Option Range))) (turn : Turn Lookup Resolved) (r : Reply) (o : Option Errno) → fault_of r ≡ o → Noted None turn → Noted (fault_of r) (unless_fault o learned turn)
-stop_notes learned turn r None e h = subst (λ o. Noted o turn) (sym e) h
-stop_notes learned turn r (Some x) e h = ap part_fault (sym e) ∙ fault_errors r
+stop_notes : (l : Location) (learned : Option (List (Option Range))) (turn : Turn Lookup Resolved) (r : Reply) (o : Option Errno) → fault_of r ≡ o → Noted None turn → Noted (fault_of r) (unless_fault o l learned turn)
+stop_notes l learned turn r None e h = subst (λ o. Noted o turn) (sym e) h
+stop_notes l learned turn r (Some x) e h = ap part_fault (sym e) ∙ fault_errors r
 
 aimed_notes : (l : Location) (p : Prepared) (learned : Option (List (Option Range))) (o : Option ℕ) → lookup_fault (aimed_at l p learned o) ≡ None
 aimed_notes l p learned None = refl
@@ -178,7 +180,7 @@ survey_notes l p b old r at = by (shows_gone l.directory b r) (is_shown r)
     ranges : List (Option Range)
     ranges = lengthened old (range_shown r)
 
-    by : (v w : Bool) → Noted None (if v then gone at None else (if w then Go (surveyed l p b (lengthened old (range_shown r))) else Go (Surveying l p b old)))
+    by : (v w : Bool) → Noted None (if v then gone l at None else (if w then Go (surveyed l p b (lengthened old (range_shown r))) else Go (Surveying l p b old)))
     by true w = refl
     by false true = surveyed_notes l p b ranges (nat_le (l.bricks - b.0) 1)
     by false false = refl
@@ -230,9 +232,9 @@ laid_notes y r None e = by (is_carried (reply_kind r)) ∙ sym e
     by false = refl
 laid_notes y r (Some x) e = ap part_fault (sym e) ∙ fault_errors r
 
-closing_notes : (c : Closing) (place : Option BrickNo) (learned : Option (List (Option Range))) (r : Reply) (v : Bool) → Notes (Ending c place learned) r (closing_turned (if v then Go (record { scope = c.scope; place = c.place - 1; finish = c.finish }) else Done c.finish) place learned)
-closing_notes c place learned r true = either_none (brick_fault c.finish.answer)
-closing_notes c place learned r false = either_none (brick_fault c.finish.answer)
+release_notes : (m : Release) (x : Answered) (r : Reply) (turn : Turn Release Prepared) → Notes (Ending m x) r (release_turned turn x)
+release_notes m x r (Go n) = either_none (brick_fault x.finish.answer)
+release_notes m x r (Done p) = either_none (brick_fault x.finish.answer)
 
 -- before any lock, no error was noted
 as_noted : (turn : Turn Lookup Resolved) (o : Option Errno) → Noted o turn → MatchTurn (ended_turn turn) (λ n. lookup_fault n ≡ o) (λ d. brick_fault d.finish.answer ≡ o)
@@ -240,20 +242,20 @@ as_noted (Go n) o h = h
 as_noted (Done d) o h = h
 
 pub lookup_notes : (m : Lookup) (r : Reply) (at : ℕ) → Notes m r (lookup_after m r at)
-lookup_notes (Surveying l p b ranges) r at = as_noted _ (fault_of r) (stop_notes None _ r (fault_of r) refl (survey_notes l p b ranges r at))
-lookup_notes (LookingAtHolder x p) r at = as_noted _ (fault_of r) (stop_notes x.learned _ r (fault_of r) refl
+lookup_notes (Surveying l p b ranges) r at = as_noted _ (fault_of r) (stop_notes l None _ r (fault_of r) refl (survey_notes l p b ranges r at))
+lookup_notes (LookingAtHolder x p) r at = as_noted _ (fault_of r) (stop_notes x.location x.learned _ r (fault_of r) refl
     (if_notes (LookingAtHolder x p) _ (is_shown r) refl (holder_notes x p (shown_as x.location.bricks r) at)))
-lookup_notes (FollowingLinkto x p) r at = as_noted _ (fault_of r) (stop_notes x.learned _ r (fault_of r) refl
+lookup_notes (FollowingLinkto x p) r at = as_noted _ (fault_of r) (stop_notes x.location x.learned _ r (fault_of r) refl
     (if_notes (FollowingLinkto x p) _ (is_shown r) refl (linked_notes x p (shown_as x.location.bricks r) at)))
 lookup_notes (LookingEverywhere l m learned) r at = section_turn_notes l m learned (section_after m r at) r (notes_fault m r at)
 lookup_notes (LayingLinkto y) r at = laid_notes y r (fault_of r) refl
-lookup_notes (Ending c place learned) r at = closing_notes c place learned r (nat_lt 0 c.place)
+lookup_notes (Ending m x) r at = release_notes m x r (release_after m)
 
 -- ---- what it sends again
 
-again_by : (o : Option Errno) (learned : Option (List (Option Range))) (turn : Turn Lookup Resolved) (m : Lookup) → o ≡ None → turn ≡ Go m → unless_fault o learned turn ≡ Go m
-again_by None learned turn m z e = e
-again_by (Some x) learned turn m z e = absurd (let k : Some x ≡ None = z in cc)
+again_by : (o : Option Errno) (l : Location) (learned : Option (List (Option Range))) (turn : Turn Lookup Resolved) (m : Lookup) → o ≡ None → turn ≡ Go m → unless_fault o l learned turn ≡ Go m
+again_by None l learned turn m z e = e
+again_by (Some x) l learned turn m z e = absurd (let k : Some x ≡ None = z in cc)
 
 if_again : (m : Lookup) (turn : Turn Lookup Resolved) (v : Bool) → v ≡ false → (if v then turn else Go m) ≡ Go m
 if_again m turn v e = ap (λ (b : Bool). if b then turn else Go m) e
@@ -270,7 +272,7 @@ nodir_shown reply.NoMemory h = absurd (let z : false ≡ true = h in cc)
 survey_again : (l : Location) (p : Prepared) (b : BrickNo) (ranges : List (Option Range)) (r : Reply) (at : ℕ) → is_shown r ≡ false → survey_answered l p b ranges r at ≡ Go (Surveying l p b ranges)
 survey_again l p b ranges r at e = by (shows_gone l.directory b r) refl
   where
-    by : (v : Bool) → shows_gone l.directory b r ≡ v → (if v then gone at None else (if is_shown r then Go (surveyed l p b (lengthened ranges (range_shown r))) else Go (Surveying l p b ranges))) ≡ Go (Surveying l p b ranges)
+    by : (v : Bool) → shows_gone l.directory b r ≡ v → (if v then gone l at None else (if is_shown r then Go (surveyed l p b (lengthened ranges (range_shown r))) else Go (Surveying l p b ranges))) ≡ Go (Surveying l p b ranges)
     by true k = absurd (let shown = nodir_shown r (both (is_nodir r) (nat_eq b.0 (home l.directory)) k).0 in let z : true ≡ false = sym shown ∙ e in cc)
     by false k = if_again (Surveying l p b ranges) _ (is_shown r) e
 
@@ -278,13 +280,13 @@ laid_again : (y : Misplaced) (r : Reply) (o : Option Errno) → o ≡ None → i
 laid_again y r None z e = ap (λ (v : Bool). if v then answers_file y.location y.held y.place else LayingLinkto y) e
 laid_again y r (Some x) z e = absurd (let k : Some x ≡ None = z in cc)
 
-pub lookup_again : (m : Lookup) (r : Reply) (at : ℕ) → IsUnanswered (lookup_stage m) r → lookup_after m r at ≡ Go m
-lookup_again (Surveying l p b ranges) r at h = again_by (fault_of r) None _ (Surveying l p b ranges) h.0 (survey_again l p b ranges r at h.1)
-lookup_again (LookingAtHolder x p) r at h = again_by (fault_of r) x.learned _ (LookingAtHolder x p) h.0 (if_again (LookingAtHolder x p) _ (is_shown r) h.1)
-lookup_again (FollowingLinkto x p) r at h = again_by (fault_of r) x.learned _ (FollowingLinkto x p) h.0 (if_again (FollowingLinkto x p) _ (is_shown r) h.1)
-lookup_again (LookingEverywhere l m learned) r at h = absurd (never_unanswered m r h)
-lookup_again (LayingLinkto y) r at h = ap Go (laid_again y r (fault_of r) h.0 h.1)
-lookup_again (Ending c place learned) r at h = absurd h.1
+pub unanswered_again : (m : Lookup) (r : Reply) (at : ℕ) → IsUnanswered (lookup_stage m) r → lookup_after m r at ≡ Go m
+unanswered_again (Surveying l p b ranges) r at h = again_by (fault_of r) l None _ (Surveying l p b ranges) h.0 (survey_again l p b ranges r at h.1)
+unanswered_again (LookingAtHolder x p) r at h = again_by (fault_of r) x.location x.learned _ (LookingAtHolder x p) h.0 (if_again (LookingAtHolder x p) _ (is_shown r) h.1)
+unanswered_again (FollowingLinkto x p) r at h = again_by (fault_of r) x.location x.learned _ (FollowingLinkto x p) h.0 (if_again (FollowingLinkto x p) _ (is_shown r) h.1)
+unanswered_again (LookingEverywhere l m learned) r at h = absurd (never_unanswered m r h)
+unanswered_again (LayingLinkto y) r at h = ap Go (laid_again y r (fault_of r) h.0 h.1)
+unanswered_again (Ending m x) r at h = absurd h.1
 
 -- ---- what it answers at once
 
@@ -310,20 +312,20 @@ file_main (reply.Ok x) = refl
 file_main r = refl
 
 -- a turn that comes of this main part
-found_turn : (o : Option Errno) (learned : Option (List (Option Range))) (turn : Turn Lookup Resolved) (again : Lookup) (v : Bool) → o ≡ None → v ≡ true → unless_fault o learned (if v then turn else Go again) ≡ turn
-found_turn None learned turn again v z e = ap (λ (b : Bool). if b then turn else Go again) e
-found_turn (Some x) learned turn again v z e = absurd (let k : Some x ≡ None = z in cc)
+found_turn : (o : Option Errno) (l : Location) (learned : Option (List (Option Range))) (turn : Turn Lookup Resolved) (again : Lookup) (v : Bool) → o ≡ None → v ≡ true → unless_fault o l learned (if v then turn else Go again) ≡ turn
+found_turn None l learned turn again v z e = ap (λ (b : Bool). if b then turn else Go again) e
+found_turn (Some x) l learned turn again v z e = absurd (let k : Some x ≡ None = z in cc)
 
 pub holder_found : (x : Sought) (p : Prepared) (m : Main) (r : Reply) (at : ℕ) → main_shown r ≡ Some m → lookup_after (LookingAtHolder x p) r at ≡ holder_showed x p (shown_main x.location.bricks (Some m)) at
 holder_found x p m r at e =
     let q = given_shown r m e in
-    found_turn (fault_of r) x.learned (holder_showed x p (shown_as x.location.bricks r) at) (LookingAtHolder x p) (is_shown r) q.1 q.0
+    found_turn (fault_of r) x.location x.learned (holder_showed x p (shown_as x.location.bricks r) at) (LookingAtHolder x p) (is_shown r) q.1 q.0
     ∙ ap (λ (o : Option Main). holder_showed x p (shown_main x.location.bricks o) at) e
 
 pub linked_found : (x : Sought) (p : Prepared) (m : Main) (r : Reply) (at : ℕ) → main_shown r ≡ Some m → lookup_after (FollowingLinkto x p) r at ≡ linked_showed x p (shown_main x.location.bricks (Some m)) at
 linked_found x p m r at e =
     let q = given_shown r m e in
-    found_turn (fault_of r) x.learned (linked_showed x p (shown_as x.location.bricks r) at) (FollowingLinkto x p) (is_shown r) q.1 q.0
+    found_turn (fault_of r) x.location x.learned (linked_showed x p (shown_as x.location.bricks r) at) (FollowingLinkto x p) (is_shown r) q.1 q.0
     ∙ ap (λ (o : Option Main). linked_showed x p (shown_main x.location.bricks o) at) e
 
 -- the looks of its section are under locks
@@ -343,7 +345,7 @@ lookup_found (FollowingLinkto x p) r at f h =
     subst (λ turn. IsFound f at (ended_turn turn)) (sym (linked_found x p (main.File f q.0) r at q.1)) refl
 lookup_found (LookingEverywhere l m learned) r at f h = absurd (never_free m h.0)
 lookup_found (LayingLinkto y) r at f h = absurd h.0
-lookup_found (Ending c place learned) r at f h = absurd h.0
+lookup_found (Ending m x) r at f h = absurd h.0
 
 pub lookup_folder : (m : Lookup) (r : Reply) (at : ℕ) (g : Gfid) → ShowsDir (lookup_stage m) r g → IsDirFound g at (ended_turn (lookup_after m r at))
 lookup_folder (Surveying l p b ranges) r at g h = absurd h.0
@@ -351,4 +353,4 @@ lookup_folder (LookingAtHolder x p) r at g h = subst (λ turn. IsDirFound g at (
 lookup_folder (FollowingLinkto x p) r at g h = subst (λ turn. IsDirFound g at (ended_turn turn)) (sym (linked_found x p (main.Dir g) r at h.1)) refl
 lookup_folder (LookingEverywhere l m learned) r at g h = absurd (never_free m h.0)
 lookup_folder (LayingLinkto y) r at g h = absurd h.0
-lookup_folder (Ending c place learned) r at g h = absurd h.0
+lookup_folder (Ending m x) r at g h = absurd h.0

@@ -7,16 +7,13 @@ use Rattle.std.specs.Str.{bytes_eq}
 use Rattle.dht_types.proofs.PutLaws.{exact_nat}
 use Rattle.dht_types.proofs.VolumeLemmas.{length-replay_names}
 use Rattle.dht_types.specs.Gfid.{home}
-use Rattle.dht_types.specs.History.{Deeds, HasPoint, Tells, is_carried}
+use Rattle.dht_types.specs.History.{is_carried}
 use Rattle.dht_types.specs.Linkto.{linked_brick, linkto_value, without_zero}
-use Rattle.dht_types.specs.Tree.{Tree, IsFile, IsDir, Refuse, says, looked_up as tree_says, answer_of}
+use Rattle.dht_types.specs.Tree.{IsFile, IsDir}
 use Rattle.dht_types.specs.Volume.{replay_names}
 use Rattle.dht_types.specs.declared.calls.Answer.TheVariants as answer
-use Rattle.dht_types.specs.declared.calls.Call.{Call}
-use Rattle.dht_types.specs.declared.calls.Call.TheVariants as call
 use Rattle.dht_types.specs.declared.calls.TreeStep.{TreeStep}
 use Rattle.dht_types.specs.declared.errors.Errno.{Errno}
-use Rattle.dht_types.specs.declared.errors.Errno.TheVariants.{Estale}
 use Rattle.dht_types.specs.declared.identifiers.BrickNo.{BrickNo}
 use Rattle.dht_types.specs.declared.identifiers.Gfid.{Gfid}
 use Rattle.dht_types.specs.declared.locks.Mode.TheVariants.{Shared}
@@ -38,40 +35,37 @@ use Rattle.dht_brick.specs.declared.replies.Reply.{Reply}
 use Rattle.dht_brick.specs.declared.replies.Reply.TheVariants as reply
 use Rattle.dht_brick.specs.declared.requests.NameRequest.TheVariants.{MakeLinkto}
 use Rattle.dht_section.proofs.ClaimLaws.{claims_more}
-use Rattle.dht_section.proofs.ClosingSteps.{closes, closing_moves}
 use Rattle.dht_section.proofs.EarlyLaws.{here_off}
-use Rattle.dht_section.proofs.FirstSection.{one_fresh, one_knows, starts}
-use Rattle.dht_section.proofs.LocationLaws.{looked_is}
+use Rattle.dht_section.proofs.FirstSection.{one_fresh, one_ordered, starts}
+use Rattle.dht_section.proofs.LocationLaws.{home_there, looked_is}
 use Rattle.dht_section.proofs.PartSteps.{part_served, part_goes_on, part_ends, free_goes_on, free_ends}
-use Rattle.dht_section.proofs.SceneLaws.{fault_earned, row_reply}
-use Rattle.dht_section.proofs.SectionLocks.{fresh_moved}
+use Rattle.dht_section.proofs.SceneLaws.{IsQuiet, deeds_quiet, fault_earned, row_reply, tree_quiet}
+use Rattle.dht_section.proofs.ReleaseSteps.{can_begin_moved, release_moves, releases}
 use Rattle.dht_section.proofs.SectionLooks.{both, home_gone}
-use Rattle.dht_section.proofs.SectionParts.{gone_directory, gone_earned}
-use Rattle.dht_section.proofs.SectionSteps.{keeps_scope, leaves_unlocks, names_gone, section_moves}
+use Rattle.dht_section.proofs.SectionParts.{fault_errors, gone_directory}
+use Rattle.dht_section.proofs.SectionSteps.{keeps_scope, leaves_unlocks, names_gone, notes_fault, section_moves}
 use Rattle.dht_section.proofs.ShownLaws.{in_dir_there}
 use Rattle.dht_section.proofs.UnlockingSteps.{scope_moved}
+use Rattle.dht_section.proofs.WholeSteps.{asks_quiet}
 use Rattle.dht_section.specs.Claims.{Lock, claims_locks}
-use Rattle.dht_section.specs.Closing.{closing_stage}
+use Rattle.dht_section.specs.Faults.{part_fault}
 use Rattle.dht_section.specs.Disk.{dir_at, slot_at}
 use Rattle.dht_section.specs.Ended.{gone_at}
-use Rattle.dht_section.specs.Location.{IsHeldAt, entry_at, scope_at, section_at}
-use Rattle.dht_section.specs.Looks.{IsNoDir, file_in, is_nodir, lengthened, mark_at, main_shown}
-use Rattle.dht_section.specs.MayAnswerLaws.{may_answer_moved}
-use Rattle.dht_section.specs.Moves.{Guarantee, deeds_by, step_of}
+use Rattle.dht_section.specs.Location.{IsHeldAt, entry_at, section_at}
+use Rattle.dht_section.specs.Looks.{file_in, is_nodir, lengthened, mark_at, main_shown}
+use Rattle.dht_section.specs.Moves.{Guarantee, deeds_by, step_of, tree_by}
 use Rattle.dht_section.specs.Replies.{fault_of, is_shown, range_shown}
-use Rattle.dht_section.specs.Scene.{Scene, Sound, MayAnswer, fault_finish}
-use Rattle.dht_section.specs.Section.{IsFresh, IsLooked, KeepsScope, LeavesUnlocks, NamesGone, Outlasts, ReadAt, found_shape, held_holder, held_looked, opened_ending, section_after, section_scope, section_stage, shows_gone}
+use Rattle.dht_section.specs.Scene.{Scene, Sound, fault_finish}
+use Rattle.dht_section.specs.Section.{KeepsScope, LeavesUnlocks, NamesGone, NotesFault, Outlasts, ReadAt, fault_now, held_holder, held_layout, held_looked, section_fault, opened_ending, section_after, section_scope, section_stage, shows_gone}
 use Rattle.dht_section.specs.SectionLaws.{bricks_are}
-use Rattle.dht_section.specs.Shapes.{node_of}
-use Rattle.dht_section.specs.Stages.{Stage, Served, GoesOn, EndsIn, Moves, MatchTurn, answered}
+use Rattle.dht_section.specs.Stages.{Stage, Served, GoesOn, EndsIn, Moves, MatchTurn}
 use Rattle.dht_section.specs.Views.{visible}
-use Rattle.dht_section.specs.Want.{claimed}
-use Rattle.dht_section.specs.declared.closing.Closing.{Closing}
+use Rattle.dht_section.specs.Release.{memory_of, release_stage, released_ending}
+use Rattle.dht_section.specs.ReleaseLaws.{begins_anew}
+use Rattle.dht_section.specs.Want.{Scoped, claimed}
+use Rattle.dht_section.specs.declared.release.Release.{Release}
 use Rattle.dht_section.specs.declared.location.Location.{Location}
-use Rattle.dht_section.specs.declared.looks.Looked.{Looked}
 use Rattle.dht_section.specs.declared.looks.Place.{Place}
-use Rattle.dht_section.specs.declared.looks.What.{What}
-use Rattle.dht_section.specs.declared.looks.What.TheVariants as what
 use Rattle.dht_section.specs.declared.machine.Ask.{Ask}
 use Rattle.dht_section.specs.declared.machine.Finish.{Finish}
 use Rattle.dht_section.specs.declared.machine.Turn.{Turn}
@@ -80,11 +74,14 @@ use Rattle.dht_section.specs.declared.section.Held.{Held}
 use Rattle.dht_section.specs.declared.section.Opened.{Opened}
 use Rattle.dht_section.specs.declared.section.Opened.TheVariants.{Held as Holding, Gone as IsGone, Stopped as IsStopped}
 use Rattle.dht_section.specs.declared.section.Section.{Section}
-use Rattle.dht_resolve.proofs.FreeLooks.{look_point, told}
+use Rattle.dht_section.specs.declared.section.Section.TheVariants.{Locking, Looking, Unlocking}
+use Rattle.dht_resolve.proofs.AnsweredLaws.{a_place, answered_moved, brick_errors, fault_answered, gone_answered, held_answered, no_place, not_in_itself}
+use Rattle.dht_resolve.proofs.FreeLooks.{look_told, told}
 use Rattle.dht_resolve.specs.Found.{leads_to, shown_as, shown_main}
-use Rattle.dht_resolve.specs.Lookup.{HasPlace, IsLookup, IsMisplaced, MayLookUp, Secures, Seeks, Waits, aimed, aimed_at, first_lookup, found_answer, holder_in, linkto_ask, look_ask, lookup_stage, lookup_steps, resolved, seen_finish}
+use Rattle.dht_resolve.specs.Lookup.{Answers, HasPlace, HasRoom, IsAnswered, IsMisplaced, IsRoom, MayLookUp, Secures, Seeks, Waits, aimed, aimed_at, first_lookup, found_answer, holder_in, linkto_ask, look_ask, lookup_again, lookup_stage, lookup_steps, resolved, seen_finish}
 use Rattle.dht_resolve.specs.LookupLaws.{holder_there, misplaced_stands}
-use Rattle.dht_resolve.specs.Turns.{answers_file, closed, closing_turned, found_by, holder_looked, holder_showed, laid_by, linked_looked, linked_showed, lookup_after, placed_by, section_turned, survey_answered, surveyed, unless_fault, wants_linkto}
+use Rattle.dht_resolve.specs.Turns.{answers_file, answers_so, closed, done_as, found_by, gone, release_turned, shown_at, holder_looked, holder_showed, laid_by, linked_looked, linked_showed, lookup_after, placed_by, section_turned, survey_answered, surveyed, unless_fault, wants_linkto}
+use Rattle.dht_resolve.specs.declared.lookup.Answered.{Answered}
 use Rattle.dht_resolve.specs.declared.lookup.Lookup.{Lookup}
 use Rattle.dht_resolve.specs.declared.lookup.Lookup.TheVariants.{Surveying, LookingAtHolder, FollowingLinkto, LookingEverywhere, LayingLinkto, Ending}
 use Rattle.dht_resolve.specs.declared.lookup.Misplaced.{Misplaced}
@@ -103,25 +100,24 @@ Went x r t turn = MatchTurn turn (λ n. GoesOn x (lookup_stage n) r t) (λ d. En
 -- ---- where a lookup goes on that has claimed nothing
 
 -- it is in a stage that claims these locks, in which it still sends at most so many requests
-record Ready (m : Lookup) (limit : ℕ) (t : Scene) : Type 0 where
-  next : List Lock
-  claims : (lookup_stage m).claims ≡ claims_locks next
-  variant : (lookup_stage m).variant ≤ limit
-  knows : (lookup_stage m).knows t
+pub record Ready (m : Lookup) (limit : ℕ) (t : Scene) : Type 0 where
+  pub next : List Lock
+  pub claims : (lookup_stage m).claims ≡ claims_locks next
+  pub variant : (lookup_stage m).variant ≤ limit
+  pub knows : (lookup_stage m).knows t
 
 sooner : (m : Lookup) (n limit : ℕ) (t : Scene) → n ≤ limit → Ready m n t → Ready m limit t
 sooner m n limit t l h = record { next = h.next; claims = h.claims; variant = let v = h.variant in omega arith; knows = h.knows }
 
-secures_first : (l : Location) (learned : Option (List (Option Range))) (t : Scene) → IsLookup l t → IsFresh (scope_at l) t → Ready (LookingEverywhere l (section_at l) learned) (l.bricks + 5) t
-secures_first l learned t called fresh = record {
-  next = claimed (scope_at l) 1;
-  claims = refl;
-  variant = let v = (starts l.bricks l.directory Shared l.name).variant in omega arith;
-  knows = (one_knows l.bricks l.directory Shared l.name t fresh, record { call = called; scope = refl });
-}
-
 secures : (l : Location) (p : Prepared) (learned : Option (List (Option Range))) (t : Scene) → Waits l p t → Ready (LookingEverywhere l (begun p) learned) (l.bricks + 5) t
-secures l p learned t h = subst (λ (x : Prepared). Ready (LookingEverywhere l (begun x) learned) (l.bricks + 5) t) (sym h.ready) (secures_first l learned t h.call h.fresh)
+secures l p learned t h =
+    let v : (section_stage (begun p)).variant ≡ l.bricks + 4 = ap (λ (w : Scoped). (section_stage (Locking w 0 [])).variant) h.scope ∙ (starts l.bricks l.directory Shared l.name).variant in
+    record {
+      next = claimed p.scope 1;
+      claims = refl;
+      variant = omega arith;
+      knows = (begins_anew p t h.can, record { scope = h.scope; fault = refl; deeds = h.can.fresh.deeds });
+    }
 
 seeks : (l : Location) (p : Prepared) (learned : Option (List (Option Range))) (b : ℕ) (t : Scene) → b < l.bricks → Waits l p t → Ready (LookingAtHolder (record { location = l; brick = record { 0 = b }; learned = learned }) p) (l.bricks + 7) t
 seeks l p learned b t within h = record { next = []; claims = refl; variant = omega arith; knows = record { waits = h; within = within } }
@@ -154,8 +150,8 @@ surveyed_ready l p b ranges t within h = by (nat_le (l.bricks - b.0) 1) refl
 
 -- ---- what is known after a request that claims nothing
 
-waits_moved : (l : Location) (p : Prepared) (s t : Scene) (a : Ask) (r : Reply) → Rattle.dht_section.proofs.SceneLaws.IsQuiet a.request → Waits l p s → Guarantee s a r t → Waits l p t
-waits_moved l p s t a r quiet h v = record { call = v.mine.call ∙ h.call; ready = h.ready; fresh = fresh_moved (scope_at l) s t a r quiet h.fresh v }
+waits_moved : (l : Location) (p : Prepared) (s t : Scene) (a : Ask) (r : Reply) → IsQuiet a.request → Waits l p s → Guarantee s a r t → Waits l p t
+waits_moved l p s t a r quiet h v = record { scope = h.scope; can = can_begin_moved p s t a r quiet h.can v }
 
 -- a stage of a lookup that has claimed nothing goes on to one that is ready
 goes_on : (x : Stage) (n : Lookup) (limit : ℕ) (r : Reply) (at : ℕ) (s t : Scene) → x.claims.locks ≡ [] → limit < x.variant → Ready n limit t → Served x r at s t → GoesOn x (lookup_stage n) r t
@@ -164,12 +160,16 @@ goes_on x n limit r at s t e l ready h =
     free_goes_on x (lookup_stage n) ready.next r at s t e ready.claims ready.knows (omega arith) h
 
 -- and it may end so
-ends : (x : Stage) (d : Resolved) (r : Reply) (at : ℕ) (s t : Scene) → x.claims.locks ≡ [] → MayAnswer d.finish t → HasPlace d.finish.answer d.place → Served x r at s t → EndsIn x (resolved d) t
-ends x d r at s t e earned place h = record { claims = (free_ends x d.finish r at s t e earned h).claims; earned = (earned, place) }
+ends : (x : Stage) (d : Resolved) (r : Reply) (at : ℕ) (s t : Scene) → x.claims.locks ≡ [] → IsAnswered d.answered t → HasRoom d.answered.location d.answered.finish.answer d.room t → Served x r at s t → EndsIn x (resolved d) t
+ends x d r at s t e right room h = free_ends x (resolved d) r at s t refl e (right, room) h
 
-stops : (x : Stage) (learned : Option (List (Option Range))) (turn : Turn Lookup Resolved) (r : Reply) (at : ℕ) (s t : Scene) (o : Option Errno) → fault_of r ≡ o → x.claims.locks ≡ [] → (fault_of r ≡ None → Went x r t turn) → Served x r at s t → Went x r t (unless_fault o learned turn)
-stops x learned turn r at s t None z claims go h = go z
-stops x learned turn r at s t (Some errno) z claims go h = ends x (record { finish = fault_finish errno; place = None; layout = learned }) r at s t claims (fault_earned s t _ r errno z h.moved) refl h
+-- with an answer from which no other part goes on
+ends_done : (x : Stage) (l : Location) (f : Finish) (layout : Option (List (Option Range))) (r : Reply) (at : ℕ) (s t : Scene) → x.claims.locks ≡ [] → IsAnswered (answers_so l f None layout) t → HasRoom l f.answer None t → Served x r at s t → Went x r t (done_as l f layout)
+ends_done x l f layout r at s t e right room h = ends x (record { answered = answers_so l f None layout; room = None }) r at s t e right room h
+
+stops : (x : Stage) (l : Location) (learned : Option (List (Option Range))) (turn : Turn Lookup Resolved) (r : Reply) (at : ℕ) (s t : Scene) (o : Option Errno) → fault_of r ≡ o → x.claims.locks ≡ [] → t.mine.deeds ≡ None → (fault_of r ≡ None → Went x r t turn) → Served x r at s t → Went x r t (unless_fault o l learned turn)
+stops x l learned turn r at s t None z claims deeds go h = go z
+stops x l learned turn r at s t (Some e) z claims deeds go h = ends_done x l (fault_finish e) learned r at s t claims (fault_answered l e learned t (brick_errors r e z) (fault_earned s t _ r e z h.moved) deeds) tt h
 
 -- ---- the survey
 
@@ -191,19 +191,16 @@ exclude b e k = let z : true ≡ false = sym e ∙ k in cc
 survey_reply : (l : Location) (p : Prepared) (b : BrickNo) (ranges : List (Option Range)) (r : Reply) (at : ℕ) (s t : Scene) → fault_of r ≡ None → Served (lookup_stage (Surveying l p b ranges)) r at s t → r ≡ shown_reply (dir (s.disk.brick b.0).store l.directory) (λ x. given.Dirinfo (info_of (s.disk.brick b.0).store l.directory x)) (s.disk.brick b.0)
 survey_reply l p b ranges r at s t z h = row_reply s t _ r h.moved z
 
-refuses_lookup : (l : Location) (p : Tree) (g : Gfid) → p.dirs l.directory ≡ false → answer_of (says p (call.Lookup l.directory l.name) g) ≡ Some (answer.Fault Estale)
-refuses_lookup l p g e = ap (λ b. answer_of (if b then tree_says (p.names (entry_at l)) else Refuse Estale)) e
-
 -- the home has no record of the directory
-gone_step : (l : Location) (p : Prepared) (b : BrickNo) (ranges : List (Option Range)) (r : Reply) (at : ℕ) (s t : Scene) → fault_of r ≡ None → shows_gone l.directory b r ≡ true → Served (lookup_stage (Surveying l p b ranges)) r at s t → EndsIn (lookup_stage (Surveying l p b ranges)) (resolved (record { finish = gone_at at; place = None; layout = None })) t
+gone_step : (l : Location) (p : Prepared) (b : BrickNo) (ranges : List (Option Range)) (r : Reply) (at : ℕ) (s t : Scene) → fault_of r ≡ None → shows_gone l.directory b r ≡ true → Served (lookup_stage (Surveying l p b ranges)) r at s t → Went (lookup_stage (Surveying l p b ranges)) r t (gone l at None)
 gone_step l p b ranges r at s t z e h =
     let q = both (is_nodir r) (nat_eq b.0 (home l.directory)) e in
     let c : Contents = s.disk.brick b.0 in
     let k = h.is_at.knows.waits in
     let none : dir_at s.disk b.0 l.directory ≡ None = no_record (dir c.store l.directory) (λ x. given.Dirinfo (info_of c.store l.directory x)) c (ap is_nodir (sym (survey_reply l p b ranges r at s t z h)) ∙ q.0) in
     let at_home : dir_at s.disk (home l.directory) l.directory ≡ None = ap (λ (i : ℕ). dir_at s.disk i l.directory) (sym ((exact_nat b.0 (home l.directory)).0 q.1)) ∙ none in
-    let was = home_gone l.directory at s t _ r tt k.fresh.deeds h.before h.after h.line at_home h.moved in
-    ends (lookup_stage (Surveying l p b ranges)) (record { finish = gone_at at; place = None; layout = None }) r at s t refl (gone_earned l.directory (call.Lookup l.directory l.name) l.directory at t (refuses_lookup l) (h.moved.mine.call ∙ k.call) refl was) refl h
+    let was = home_gone l.directory at s t _ r tt k.can.fresh.deeds h.before h.after h.line at_home h.moved in
+    ends_done (lookup_stage (Surveying l p b ranges)) l (gone_at at) None r at s t refl (gone_answered l l.directory at None t refl was) tt h
 
 survey_on : (l : Location) (p : Prepared) (b : BrickNo) (old ranges : List (Option Range)) (r : Reply) (at : ℕ) (s t : Scene) → Served (lookup_stage (Surveying l p b old)) r at s t → GoesOn (lookup_stage (Surveying l p b old)) (lookup_stage (surveyed l p b ranges)) r t
 survey_on l p b old ranges r at s t h =
@@ -216,7 +213,7 @@ survey_step l p b ranges r at s t z h = by (shows_gone l.directory b r) (is_show
     c : Contents
     c = s.disk.brick b.0
 
-    by : (v w : Bool) → shows_gone l.directory b r ≡ v → is_shown r ≡ w → Went (lookup_stage (Surveying l p b ranges)) r t (if v then Done (record { finish = gone_at at; place = None; layout = None }) else (if w then Go (surveyed l p b (lengthened ranges (range_shown r))) else Go (Surveying l p b ranges)))
+    by : (v w : Bool) → shows_gone l.directory b r ≡ v → is_shown r ≡ w → Went (lookup_stage (Surveying l p b ranges)) r t (if v then gone l at None else (if w then Go (surveyed l p b (lengthened ranges (range_shown r))) else Go (Surveying l p b ranges)))
     by true w e k = gone_step l p b ranges r at s t z e h
     by false true e k = survey_on l p b ranges (lengthened ranges (range_shown r)) r at s t h
     by false false e k = absurd (exclude (is_shown r) (ap is_shown (survey_reply l p b ranges r at s t z h) ∙ brick_shows (dir c.store l.directory) (λ x. given.Dirinfo (info_of c.store l.directory x)) c) k)
@@ -271,17 +268,29 @@ record FreeLook (x : Sought) (p : Prepared) (stage : Stage) (r : Reply) (at : �
   moved : Guarantee s (look_ask x) r t
   served : Served stage r at s t
 
-look_file : (x : Sought) (p : Prepared) (stage : Stage) (f : Gfid) (r : Reply) (at : ℕ) (s t : Scene) → shown_as x.location.bricks r ≡ File f → FreeLook x p stage r at s t → EndsIn stage (resolved (record { finish = record { answer = answer.File f; at = Some at }; place = Some x.brick; layout = x.learned })) t
+look_file : (x : Sought) (p : Prepared) (stage : Stage) (f : Gfid) (r : Reply) (at : ℕ) (s t : Scene) → shown_as x.location.bricks r ≡ File f → FreeLook x p stage r at s t → Went stage r t (shown_at x p (answer.File f) (Some x.brick) at)
 look_file x p stage f r at s t e h =
     let q = shown_file x.location.bricks (main_shown r) f e in
-    ends stage (record { finish = record { answer = answer.File f; at = Some at }; place = Some x.brick; layout = x.learned }) r at s t h.claims (look_point x p (main.File f q.0) (IsFile f) r at s t q.1 (told_file f q.0) h.served.before h.served.after h.served.line h.before h.moved) refl h.served
+    let k = look_told x p (main.File f q.0) (IsFile f) r at s t q.1 (told_file f q.0) h.served.before h.served.after h.served.line h.before h.moved in
+    ends stage (record { answered = answers_so x.location (record { answer = answer.File f; at = Some at }) (Some x.brick) x.learned; room = Some p }) r at s t h.claims
+    (record { told = k.point; place = refl; apart = tt; still = λ now. tt; deeds = k.deeds })
+    (waits_moved x.location p s t _ r tt h.before.waits h.moved) h.served
   where
     told_file : (f : Gfid) (over : Option BrickNo) → told (main.File f over) ≡ Some (IsFile f)
     told_file f over = refl
 
-look_dir : (x : Sought) (p : Prepared) (stage : Stage) (g : Gfid) (r : Reply) (at : ℕ) (s t : Scene) → shown_as x.location.bricks r ≡ Dir g → FreeLook x p stage r at s t → EndsIn stage (resolved (record { finish = record { answer = answer.Dir g; at = Some at }; place = None; layout = x.learned })) t
+look_dir : (x : Sought) (p : Prepared) (stage : Stage) (g : Gfid) (r : Reply) (at : ℕ) (s t : Scene) → shown_as x.location.bricks r ≡ Dir g → FreeLook x p stage r at s t → Went stage r t (shown_at x p (answer.Dir g) None at)
 look_dir x p stage g r at s t e h =
-    ends stage (record { finish = record { answer = answer.Dir g; at = Some at }; place = None; layout = x.learned }) r at s t h.claims (look_point x p (main.Dir g) (IsDir g) r at s t (shown_dir x.location.bricks (main_shown r) g e) (told_dir g) h.served.before h.served.after h.served.line h.before h.moved) refl h.served
+    let k = look_told x p (main.Dir g) (IsDir g) r at s t (shown_dir x.location.bricks (main_shown r) g e) (told_dir g) h.served.before h.served.after h.served.line h.before h.moved in
+    ends stage (record { answered = answers_so x.location (record { answer = answer.Dir g; at = Some at }) None x.learned; room = Some p }) r at s t h.claims
+    (record {
+      told = k.point;
+      place = refl;
+      apart = not_in_itself t.history.tree (entry_at x.location) g h.served.after.kept.tree k.names;
+      still = λ now. k.names;
+      deeds = k.deeds;
+    })
+    (waits_moved x.location p s t _ r tt h.before.waits h.moved) h.served
   where
     told_dir : (g : Gfid) → told (main.Dir g) ≡ Some (IsDir g)
     told_dir g = refl
@@ -316,54 +325,23 @@ answered_look x p stage again turn r at s t false e z h went = absurd (exclude (
 
 -- ---- the section
 
--- what was found on all bricks, the lookup answers
-held_says : (p : Tree) (l : Location) (x : What) (g : Gfid) → IsNoDir x → p.dirs l.directory ≡ true → p.names (entry_at l) ≡ node_of (found_shape (file_in x)) → answer_of (says p (call.Lookup l.directory l.name) g) ≡ Some (found_answer x)
-held_says p l what.Absent g plain e k = ap (λ b. answer_of (if b then tree_says (p.names (entry_at l)) else Refuse Estale)) e ∙ ap (λ o. answer_of (tree_says o)) k
-held_says p l (what.Dir d) g plain e k = absurd plain
-held_says p l (what.File f b links) g plain e k = ap (λ b. answer_of (if b then tree_says (p.names (entry_at l)) else Refuse Estale)) e ∙ ap (λ o. answer_of (tree_says o)) k
-
-by_answer : (x : What) (at : ℕ) (s : Scene) → HasPoint s.history s.mine (Some at) (found_answer x) → MayAnswer (record { answer = found_answer x; at = Some at }) s
-by_answer what.Absent at s h = h
-by_answer (what.Dir d) at s h = h
-by_answer (what.File f b links) at s h = h
-
-seen_answer : (bricks : ℕ) (l : Location) (x : Looked) (s : Scene) → IsLookup l s → s.mine.deeds ≡ None → IsLooked bricks (entry_at l) x s → MayAnswer (seen_finish x) s
-seen_answer bricks l x s called fresh k = by_answer x.sight.what x.at s (record {
-  point = x.at;
-  printed = refl;
-  after = k.saw.after;
-  before = k.saw.before;
-  tells = subst (λ (o : Option Deeds). Tells s.history s.mine.call o x.at (found_answer x.sight.what)) (sym fresh)
-      (λ (g : Gfid). ap (λ (o : Call Gfid). answer_of (says (s.history.past x.at) o g)) called ∙ held_says (s.history.past x.at) l x.sight.what g k.file k.saw.directory k.saw.node);
-})
-
-held_answer : (l : Location) (h : Held) (s : Scene) → IsLookup l s → IsHeldAt l h s → MayAnswer (seen_finish (held_looked h (entry_at l))) s
-held_answer l h s called held = seen_answer h.scope.bricks l (held_looked h (entry_at l)) s called held.held.fresh.deeds (looked_is l h s held)
-
--- a brick is told exactly where it is a file
-no_place : (x : What) → file_in x ≡ None → HasPlace (found_answer x) None
-no_place what.Absent e = refl
-no_place (what.Dir d) e = refl
-no_place (what.File f b links) e = absurd (let z : ◌≡◌ {A = Option Place} (Some (record { brick = b; file = f })) None = e in cc)
-
-a_place : (x : What) (p : Place) (b : BrickNo) → file_in x ≡ Some p → HasPlace (found_answer x) (Some b)
-a_place what.Absent p b e = absurd (let z : None ≡ Some p = e in cc)
-a_place (what.Dir d) p b e = absurd (let z : None ≡ Some p = e in cc)
-a_place (what.File f c links) p b e = refl
-
 -- the section is held, and its locks are given back
 record Opens (l : Location) (m : Section) (learned : Option (List (Option Range))) (h : Held) (r : Reply) (t : Scene) : Type 0 where
-  called : IsLookup l t
+  sound : Sound t
   held : IsHeldAt l h t
   left : Outlasts m (Holding h)
   ends : EndsIn (section_stage m) (opened_ending (Holding h)) t
 
 held_closes : (l : Location) (m : Section) (learned : Option (List (Option Range))) (h : Held) (place : Option BrickNo) (r : Reply) (t : Scene) → HasPlace (found_answer (held_looked h (entry_at l)).sight.what) place → Opens l m learned h r t → GoesOn (lookup_stage (LookingEverywhere l m learned)) (lookup_stage (closed l h (seen_finish (held_looked h (entry_at l))) place)) r t
 held_closes l m learned h place r t is k =
-    let f : Finish = seen_finish (held_looked h (entry_at l)) in
     let left = k.left in
-    part_ends (section_stage m) (lookup_stage (closed l h f place)) (opened_ending (Holding h)) 1 (λ s. Secures l m s) r t k.ends refl (omega arith)
-    ((closes h f t k.ends.earned (held_answer l h t k.called k.held)).knows, is)
+    part_ends (section_stage m) (lookup_stage (closed l h (seen_finish (held_looked h (entry_at l))) place)) (opened_ending (Holding h)) 1 (λ s. Secures l m s) r t k.ends refl (omega arith) (
+      (releases h t k.ends.earned).knows,
+      record {
+        right = held_answered l h place (Some (held_layout h (entry_at l))) t k.sound is k.held;
+        scope = k.held.scope;
+      },
+    )
 
 three : (a b c : Bool) → (a && b && c) ≡ true → (a ≡ true) × (b ≡ true)
 three true true c h = (refl, refl)
@@ -378,7 +356,7 @@ held_misplaced l m learned h p b r t file holds wants k =
     let left = k.left in
     let q = three (not (nat_eq b p.brick.0)) (mark_at (held_looked h (entry_at l)).sight.copies b) _ wants in
     part_ends (section_stage m) (lookup_stage (LayingLinkto (record { location = l; held = h; holder = record { 0 = b }; place = p }))) (opened_ending (Holding h)) 1 (λ s. Secures l m s) r t k.ends refl (omega arith)
-    (record { call = k.called; held = k.held; file = file; holds = holds; apart = differ b p.brick.0 q.0; copied = q.1 })
+    (record { held = k.held; file = file; holds = holds; apart = differ b p.brick.0 q.0; copied = q.1 })
 
 held_placed : (l : Location) (m : Section) (learned : Option (List (Option Range))) (h : Held) (p : Place) (o : Option ℕ) (r : Reply) (t : Scene) → file_in (held_looked h (entry_at l)).sight.what ≡ Some p → held_holder h (entry_at l) ≡ o → Opens l m learned h r t → GoesOn (lookup_stage (LookingEverywhere l m learned)) (lookup_stage (placed_by o l h p)) r t
 held_placed l m learned h p None r t file holds k = held_closes l m learned h (Some p.brick) r t (a_place _ p p.brick file) k
@@ -392,28 +370,42 @@ held_found : (l : Location) (m : Section) (learned : Option (List (Option Range)
 held_found l m learned h None r t e k = held_closes l m learned h None r t (no_place _ e) k
 held_found l m learned h (Some p) r t e k = held_placed l m learned h p (held_holder h (entry_at l)) r t e refl k
 
-section_step : (l : Location) (m : Section) (learned : Option (List (Option Range))) (turn : Turn Section Opened) (r : Reply) (at : ℕ) (s t : Scene) → MatchTurn turn (λ n. GoesOn (section_stage m) (section_stage n) r t) (λ d. EndsIn (section_stage m) (opened_ending d) t) → KeepsScope m turn → LeavesUnlocks m turn → NamesGone m turn → Served (lookup_stage (LookingEverywhere l m learned)) r at s t → Went (lookup_stage (LookingEverywhere l m learned)) r t (section_turned l turn learned)
-section_step l m learned (Go n) r at s t went same left of v = part_goes_on (section_stage m) (section_stage n) 1 (λ s. Secures l m s) (λ s. Secures l n s) r t went (record { call = v.moved.mine.call ∙ v.is_at.knows.1.call; scope = same ∙ v.is_at.knows.1.scope })
-section_step l m learned (Done (Holding h)) r at s t went same left of v =
+-- what stopped it is an error of a brick, after each reply
+now_fault : (m : Section) (r : Reply) → part_fault (section_fault m) ≡ section_fault m → part_fault (fault_now m r) ≡ fault_now m r
+now_fault (Locking w i looks) r e = fault_errors r
+now_fault (Looking w looks n b x) r e = fault_errors r
+now_fault (Unlocking w i x) r e = e
+
+noted_error : (m : Section) (r : Reply) (o : Option Errno) → o ≡ fault_now m r → part_fault (section_fault m) ≡ section_fault m → part_fault o ≡ o
+noted_error m r o e h = ap part_fault e ∙ (now_fault m r h ∙ sym e)
+
+section_step : (l : Location) (m : Section) (learned : Option (List (Option Range))) (turn : Turn Section Opened) (r : Reply) (at : ℕ) (s t : Scene) → MatchTurn turn (λ n. GoesOn (section_stage m) (section_stage n) r t) (λ d. EndsIn (section_stage m) (opened_ending d) t) → KeepsScope m turn → LeavesUnlocks m turn → NamesGone m turn → NotesFault m r turn → Served (lookup_stage (LookingEverywhere l m learned)) r at s t → Went (lookup_stage (LookingEverywhere l m learned)) r t (section_turned l turn learned)
+section_step l m learned (Go n) r at s t went same left of notes v =
+    let k = v.is_at.knows.1 in
+    part_goes_on (section_stage m) (section_stage n) 1 (λ s. Secures l m s) (λ s. Secures l n s) r t went
+    (record { scope = same ∙ k.scope; fault = noted_error m r (section_fault n) notes k.fault; deeds = deeds_quiet s t _ r (asks_quiet m) v.moved ∙ k.deeds })
+section_step l m learned (Done (Holding h)) r at s t went same left of notes v =
     let k = v.is_at.knows.1 in
     held_found l m learned h (file_in (held_looked h (entry_at l)).sight.what) r t refl (record {
-      called = v.moved.mine.call ∙ k.call;
+      sound = v.after;
       held = record { held = went.earned; scope = same ∙ k.scope };
       left = left;
       ends = went;
     })
-section_step l m learned (Done (IsGone g line)) r at s t went same left of v =
+section_step l m learned (Done (IsGone g line)) r at s t went same left of notes v =
+    let k = v.is_at.knows.1 in
+    record { claims = went.claims; earned = (gone_answered l g line learned t (gone_directory l (section_scope m) g k.scope of) went.earned, tt) }
+section_step l m learned (Done (IsStopped e)) r at s t went same left of notes v =
     let k = v.is_at.knows.1 in
     record {
       claims = went.claims;
-      earned = (gone_earned l.directory (call.Lookup l.directory l.name) g line t (refuses_lookup l) (v.moved.mine.call ∙ k.call) (gone_directory l (section_scope m) g k.scope of) went.earned, refl);
+      earned = (fault_answered l e learned t (noted_error m r (Some e) notes k.fault) went.earned (deeds_quiet s t _ r (asks_quiet m) v.moved ∙ k.deeds), tt);
     }
-section_step l m learned (Done (IsStopped e)) r at s t went same left of v = record { claims = went.claims; earned = (went.earned, refl) }
 
 -- ---- the linkto
 
 -- it is no step of the tree
-no_linkto_step : (y : Misplaced) (r : Reply) → step_of (linkto_ask y).request r ≡ None
+no_linkto_step : (y : Misplaced) (r : Reply) → step_of (linkto_ask y).brick.0 (linkto_ask y).request r ≡ None
 no_linkto_step y (reply.Ok g) = refl
 no_linkto_step y (reply.Refused w) = refl
 no_linkto_step y (reply.Wait c) = refl
@@ -424,13 +416,28 @@ no_linkto_step y reply.NoMemory = refl
 linkto_deeds : (y : Misplaced) (r : Reply) (s t : Scene) → Guarantee s (linkto_ask y) r t → t.mine.deeds ≡ s.mine.deeds
 linkto_deeds y r s t g = g.mine.deeds_are ∙ ap (λ (o : Option TreeStep). deeds_by s t.history.size o) (no_linkto_step y g.real)
 
-laid_closes : (y : Misplaced) (f : Finish) (place : Option BrickNo) (r : Reply) (at : ℕ) (s t : Scene) → MayAnswer f t → HasPlace f.answer place → Served (lookup_stage (LayingLinkto y)) r at s t → GoesOn (lookup_stage (LayingLinkto y)) (lookup_stage (closed y.location y.held f place)) r t
-laid_closes y f place r at s t earned is h =
+linkto_tree : (y : Misplaced) (r : Reply) (s t : Scene) → Guarantee s (linkto_ask y) r t → t.history.tree ≡ s.history.tree
+linkto_tree y r s t g = g.tree ∙ ap (λ (o : Option TreeStep). tree_by o s.history.tree) (no_linkto_step y g.real)
+
+abbrev laid_layout : Misplaced → Option (List (Option Range))
+laid_layout y = Some (held_layout y.held (entry_at y.location))
+
+laid_closes : (y : Misplaced) (f : Finish) (place : Option BrickNo) (r : Reply) (at : ℕ) (s t : Scene) → IsAnswered (answers_so y.location f place (laid_layout y)) t → Served (lookup_stage (LayingLinkto y)) r at s t → GoesOn (lookup_stage (LayingLinkto y)) (lookup_stage (closed y.location y.held f place)) r t
+laid_closes y f place r at s t right h =
     let held = h.is_at.knows.held.held in
     let some = held.order.some in
+    let scope = scope_moved y.held.scope s t _ r held.fresh.scope h.moved in
     record {
       claims = claims_more _ r at s t _ h (λ b key i. i);
-      knows = (record { order = held.order; scope = scope_moved y.held.scope s t _ r held.fresh.scope h.moved; within = omega arith; earned = earned }, is);
+      knows = (
+        record {
+          order = held.order;
+          scope = scope;
+          within = omega arith;
+          earned = record { order = held.order; fresh = record { scope = scope; deeds = right.deeds }; room = held.room };
+        },
+        record { right = right; scope = h.is_at.knows.held.scope },
+      );
       nearer = λ u. (λ w. omega arith, omega arith);
     }
 
@@ -438,7 +445,8 @@ laid_answers : (y : Misplaced) (r : Reply) (at : ℕ) (s t : Scene) → Served (
 laid_answers y r at s t h =
     let k = h.is_at.knows in
     let f : Finish = seen_finish (held_looked y.held (entry_at y.location)) in
-    laid_closes y f (Some y.place.brick) r at s t (may_answer_moved f s t _ r (linkto_deeds y r s t h.moved) h.moved (held_answer y.location y.held s k.call k.held)) (a_place _ y.place y.place.brick k.file) h
+    let before = held_answered y.location y.held (Some y.place.brick) (laid_layout y) s h.before (a_place _ y.place y.place.brick k.file) k.held in
+    laid_closes y f (Some y.place.brick) r at s t (answered_moved _ s t _ r (linkto_deeds y r s t h.moved) (linkto_tree y r s t h.moved) h.moved before) h
 
 -- the holder has the directory, and nothing at the name but perhaps a linkto
 vacant : (m : Option Main) → visible m ≡ None → is_vacant m ≡ true
@@ -480,13 +488,27 @@ laid_step y r at s t false e z h = absurd (exclude (is_carried (reply_kind r)) (
 
 linkto_step : (y : Misplaced) (r : Reply) (at : ℕ) (s t : Scene) (o : Option Errno) → fault_of r ≡ o → Served (lookup_stage (LayingLinkto y)) r at s t → GoesOn (lookup_stage (LayingLinkto y)) (lookup_stage (laid_by o y r)) r t
 linkto_step y r at s t None z h = laid_step y r at s t (is_carried (reply_kind r)) refl z h
-linkto_step y r at s t (Some e) z h = laid_closes y (fault_finish e) None r at s t (fault_earned s t _ r e z h.moved) refl h
+linkto_step y r at s t (Some e) z h =
+    laid_closes y (fault_finish e) None r at s t
+    (fault_answered y.location e (laid_layout y) t (brick_errors r e z) (fault_earned s t _ r e z h.moved) (linkto_deeds y r s t h.moved ∙ h.is_at.knows.held.held.fresh.deeds)) h
 
--- ---- the closing
+-- ---- the release
 
-closing_step : (c : Closing) (place : Option BrickNo) (learned : Option (List (Option Range))) (r : Reply) (t : Scene) (v : Bool) → HasPlace c.finish.answer place → MatchTurn (if v then Go (record { scope = c.scope; place = c.place - 1; finish = c.finish }) else Done c.finish) (λ n. GoesOn (closing_stage c) (closing_stage n) r t) (λ d. EndsIn (closing_stage c) (answered d) t) → Went (lookup_stage (Ending c place learned)) r t (closing_turned (if v then Go (record { scope = c.scope; place = c.place - 1; finish = c.finish }) else Done c.finish) place learned)
-closing_step c place learned r t true is went = part_goes_on (closing_stage c) (closing_stage (record { scope = c.scope; place = c.place - 1; finish = c.finish })) 0 (λ s. HasPlace c.finish.answer place) (λ s. HasPlace c.finish.answer place) r t went is
-closing_step c place learned r t false is went = record { claims = went.claims; earned = (went.earned, is) }
+abbrev next_release : Release → Release
+next_release m = record { scope = m.scope; looks = m.looks; place = m.place - 1 }
+
+release_step : (m : Release) (x : Answered) (r : Reply) (t : Scene) (v : Bool) → Answers m x t → MatchTurn (if v then Go (next_release m) else Done (memory_of m)) (λ n. GoesOn (release_stage m) (release_stage n) r t) (λ d. EndsIn (release_stage m) (released_ending d) t) → Went (lookup_stage (Ending m x)) r t (release_turned (if v then Go (next_release m) else Done (memory_of m)) x)
+release_step m x r t true is went = part_goes_on (release_stage m) (release_stage (next_release m)) 0 (λ s. Answers m x s) (λ s. Answers (next_release m) x s) r t went (record { right = is.right; scope = is.scope })
+release_step m x r t false is went = record { claims = went.claims; earned = (is.right, record { scope = is.scope; can = went.earned }) }
+
+-- what it answers stays right
+answers_moved : (m : Release) (x : Answered) (r : Reply) (at : ℕ) (s t : Scene) → Served (lookup_stage (Ending m x)) r at s t → Answers m x t
+answers_moved m x r at s t v =
+    let k = v.is_at.knows.1 in
+    record {
+      right = answered_moved x s t _ r (deeds_quiet s t _ r tt v.moved) (tree_quiet s t _ r tt v.moved) v.moved k.right;
+      scope = k.scope;
+    }
 
 -- ---- all of it
 
@@ -494,27 +516,34 @@ free_look : (x : Sought) (p : Prepared) (stage : Stage) (r : Reply) (at : ℕ) (
 free_look x p stage r at s t asks claims variant before moved served = record { asks = asks; claims = claims; variant = variant; before = before; moved = moved; served = served }
 
 pub lookup_moves : (m : Lookup) (r : Reply) (at : ℕ) → Moves lookup_stage resolved m r at (lookup_after m r at)
-lookup_moves (Surveying l p b ranges) r at s t v = stops _ None (survey_answered l p b ranges r at) r at s t (fault_of r) refl refl (λ z. survey_step l p b ranges r at s t z v) v
+lookup_moves (Surveying l p b ranges) r at s t v = stops _ l None (survey_answered l p b ranges r at) r at s t (fault_of r) refl refl (waits_moved l p s t _ r tt v.is_at.knows.waits v.moved).can.fresh.deeds (λ z. survey_step l p b ranges r at s t z v) v
 lookup_moves (LookingAtHolder x p) r at s t v =
     let look = free_look x p (lookup_stage (LookingAtHolder x p)) r at s t refl refl (omega arith) v.is_at.knows v.moved v in
-    stops _ x.learned (holder_looked x p r at) r at s t (fault_of r) refl refl
+    stops _ x.location x.learned (holder_looked x p r at) r at s t (fault_of r) refl refl (waits_moved x.location p s t _ r tt v.is_at.knows.waits v.moved).can.fresh.deeds
     (λ z. answered_look x p _ (LookingAtHolder x p) (holder_showed x p (shown_as x.location.bricks r) at) r at s t (is_shown r) refl z look (holder_step x p r at s t (shown_as x.location.bricks r) refl look)) v
 lookup_moves (FollowingLinkto x p) r at s t v =
     let look = free_look x p (lookup_stage (FollowingLinkto x p)) r at s t refl refl (omega arith) v.is_at.knows v.moved v in
-    stops _ x.learned (linked_looked x p r at) r at s t (fault_of r) refl refl
+    stops _ x.location x.learned (linked_looked x p r at) r at s t (fault_of r) refl refl (waits_moved x.location p s t _ r tt v.is_at.knows.waits v.moved).can.fresh.deeds
     (λ z. answered_look x p _ (FollowingLinkto x p) (linked_showed x p (shown_as x.location.bricks r) at) r at s t (is_shown r) refl z look (linked_step x p r at s t (shown_as x.location.bricks r) refl look)) v
 lookup_moves (LookingEverywhere l m learned) r at s t v =
     let part = part_served (section_stage m) 1 (λ s. Secures l m s) r at s t v in
-    section_step l m learned (section_after m r at) r at s t (section_moves m r at s t part) (keeps_scope m r at) (leaves_unlocks m r at s v.is_at.knows.0) (names_gone m r at s v.is_at.knows.0) v
+    section_step l m learned (section_after m r at) r at s t (section_moves m r at s t part) (keeps_scope m r at) (leaves_unlocks m r at s v.is_at.knows.0) (names_gone m r at s v.is_at.knows.0) (notes_fault m r at) v
 lookup_moves (LayingLinkto y) r at s t v = linkto_step y r at s t (fault_of r) refl v
-lookup_moves (Ending c place learned) r at s t v =
-    let part = part_served (closing_stage c) 0 (λ s. HasPlace c.finish.answer place) r at s t v in
-    closing_step c place learned r t (nat_lt 0 c.place) v.is_at.knows.1 (closing_moves c r at s t part)
+lookup_moves (Ending m x) r at s t v =
+    let part = part_served (release_stage m) 0 (λ s. Answers m x s) r at s t v in
+    release_step m x r t (nat_lt 0 m.place) (answers_moved m x r at s t v) (release_moves m r at s t part)
 
 -- ---- its beginning
 
 first_waits : (l : Location) (s : Scene) → MayLookUp l s → Waits l (prepared_at l) s
-first_waits l s h = record { call = h.call; ready = refl; fresh = one_fresh l.bricks l.directory Shared l.name s h.count h.home h.deeds }
+first_waits l s h = record {
+  scope = refl;
+  can = record {
+    order = one_ordered l.bricks l.directory Shared l.name;
+    fresh = one_fresh l.bricks l.directory Shared l.name s h.count h.home h.deeds;
+    room = refl;
+  };
+}
 
 pub first_knows : (l : Location) (known : Option (List (Option Range))) (s : Scene) → MayLookUp l s → (lookup_stage (first_lookup l known)).knows s
 first_knows l None s h = let there = h.home in record { waits = first_waits l s h; within = omega arith }
@@ -531,3 +560,11 @@ aimed_steps l (Some b) = by (nat_lt b l.bricks)
 pub first_steps : (l : Location) (known : Option (List (Option Range))) → (lookup_stage (first_lookup l known)).variant ≤ lookup_steps l known
 first_steps l None = omega arith
 first_steps l (Some ranges) = aimed_steps l (holder_in ranges l.name)
+
+-- once more, with the memory of one that ended
+pub again_ready : (p : Prepared) (l : Location) (read : Option (List (Option Range))) (s : Scene) → IsRoom l p s → Ready (lookup_again p l read) (lookup_steps l read) s
+again_ready p l None s h =
+    let home : home l.directory < p.scope.bricks = home_there l p.scope s h.scope h.can.fresh.scope in
+    let bricks : p.scope.bricks ≡ l.bricks = ap (λ (w : Scoped). w.bricks) h.scope in
+    record { next = []; claims = refl; variant = omega arith; knows = record { waits = h; within = omega arith } }
+again_ready p l (Some ranges) s h = aimed_ready l p (Some ranges) (holder_in ranges l.name) s h

@@ -34,14 +34,14 @@ after_parts (Go m) (x ∷ xs) ys = after_parts (lookup_after m x.0 x.1) xs ys
 
 -- ---- the survey
 
-answered_by : (o : Option Errno) (g v : Bool) (turn : Turn Lookup Resolved) (again : Lookup) (at : ℕ) → o ≡ None → g ≡ false → v ≡ true → unless_fault o None (if g then gone at None else (if v then turn else Go again)) ≡ turn
-answered_by None false true turn again at z e k = refl
-answered_by None false false turn again at z e k = absurd (let q : false ≡ true = k in cc)
-answered_by None true v turn again at z e k = absurd (let q : true ≡ false = e in cc)
-answered_by (Some x) g v turn again at z e k = absurd (let q : Some x ≡ None = z in cc)
+answered_by : (l : Location) (o : Option Errno) (g v : Bool) (turn : Turn Lookup Resolved) (again : Lookup) (at : ℕ) → o ≡ None → g ≡ false → v ≡ true → unless_fault o l None (if g then gone l at None else (if v then turn else Go again)) ≡ turn
+answered_by l None false true turn again at z e k = refl
+answered_by l None false false turn again at z e k = absurd (let q : false ≡ true = k in cc)
+answered_by l None true v turn again at z e k = absurd (let q : true ≡ false = e in cc)
+answered_by l (Some x) g v turn again at z e k = absurd (let q : Some x ≡ None = z in cc)
 
 read_step : (l : Location) (p : Prepared) (b : ℕ) (done : List (Option Range)) (x : Told) → IsRead l b x.0 → lookup_after (Surveying l p (record { 0 = b }) done) x.0 x.1 ≡ Go (surveyed l p (record { 0 = b }) (lengthened done (range_shown x.0)))
-read_step l p b done x h = answered_by (fault_of x.0) (shows_gone l.directory (record { 0 = b }) x.0) (is_shown x.0) (Go (surveyed l p (record { 0 = b }) (lengthened done (range_shown x.0)))) (Surveying l p (record { 0 = b }) done) x.1 h.sound h.there h.shown
+read_step l p b done x h = answered_by l (fault_of x.0) (shows_gone l.directory (record { 0 = b }) x.0) (is_shown x.0) (Go (surveyed l p (record { 0 = b }) (lengthened done (range_shown x.0)))) (Surveying l p (record { 0 = b }) done) x.1 h.sound h.there h.shown
 
 longer : (done : List (Option Range)) (range : Option Range) → length done < 32 → lengthened done range ≡ done ++ range ∷ []
 longer done range h = by (nat_lt (length done) 32) refl

@@ -7,6 +7,7 @@ use Rattle.dht_types.specs.declared.stored.Main.TheVariants.{Linkto}
 use Rattle.dht_brick.specs.declared.replies.Reply.{Reply}
 use Rattle.dht_xattr.specs.declared.range.Range.{Range}
 use Rattle.dht_section.specs.Ended.{found_at}
+use Rattle.dht_section.specs.Location.{prepared_at}
 use Rattle.dht_section.specs.Looks.{main_shown}
 use Rattle.dht_section.specs.Replies.{fault_of, file_shown, is_shown, range_shown}
 use Rattle.dht_section.specs.Section.{shows_gone}
@@ -14,7 +15,7 @@ use Rattle.dht_section.specs.declared.location.Location.{Location}
 use Rattle.dht_section.specs.declared.machine.Turn.{Turn}
 use Rattle.dht_section.specs.declared.machine.Turn.TheVariants.{Go, Done}
 use Rattle.dht_resolve.specs.Lookup.{first_lookup, holder_in}
-use Rattle.dht_resolve.specs.Turns.{lookup_after}
+use Rattle.dht_resolve.specs.Turns.{answers_so, lookup_after}
 use Rattle.dht_resolve.specs.declared.lookup.Lookup.{Lookup}
 use Rattle.dht_resolve.specs.declared.lookup.Resolved.{Resolved}
 
@@ -53,7 +54,10 @@ pub record IsSurvey (l : Location) (xs : List Told) (b : ℕ) : Type 0 where
 abbrev pub EndsWith : Location → List Told → Gfid → ℕ → ℕ → List (Option Range) → Type 0
 EndsWith l xs f at b ranges =
     after_all (Go (first_lookup l None)) xs
-    ≡ Done (record { finish = found_at f at; place = Some (record { 0 = b }); layout = Some ranges })
+    ≡ Done (record {
+      answered = answers_so l (found_at f at) (Some (record { 0 = b })) (Some ranges);
+      room = Some (prepared_at l);
+    })
 
 -- with the look that shows the file, it has sent one request more than there are bricks
 abbrev pub FindsAtHolder : Type 0

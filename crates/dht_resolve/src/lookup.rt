@@ -3,6 +3,7 @@
 
 ghost use Rattle.std.specs.Prelude.{◌≡◌, ◌≤◌, IfOk, option_map};
 ghost use Rattle.dht_types.specs.declared.identifiers.Gfid.{Gfid as AGfid};
+ghost use Rattle.std.specs.Option.{option_copied};
 ghost use Rattle.dht_section.specs.Again.{IsUnanswered};
 ghost use Rattle.dht_section.specs.Ended.{Learns};
 ghost use Rattle.dht_section.specs.Faults.{NotesFault};
@@ -14,19 +15,19 @@ ghost use Rattle.dht_section.specs.Stages.{Moves};
 ghost use Rattle.dht_section.specs.declared.machine.Turn.TheVariants as turn;
 ghost use Rattle.dht_resolve.specs.Cache.{layout_at};
 ghost use Rattle.dht_resolve.specs.Found.{IsFound, ShowsFile, ShowsDir, IsDirFound, shown_as, leads};
-ghost use Rattle.dht_resolve.specs.Lookup.{MayLookUp, aimed, ended_turn, first_lookup, holder_in, linkto_ask, look_ask, lookup_fault, lookup_layout, lookup_stage, lookup_steps, lookup_taught, resolved, seen_finish, found_answer};
+ghost use Rattle.dht_resolve.specs.Lookup.{IsRoom, MayLookUp, aimed, ended_turn, first_lookup, lookup_again, lookup_with, holder_in, linkto_ask, look_ask, lookup_fault, lookup_layout, lookup_stage, lookup_steps, lookup_taught, resolved, seen_finish, found_answer};
 ghost use Rattle.dht_resolve.specs.Short.{FindsAtHolder, FindsByLinkto};
-ghost use Rattle.dht_resolve.specs.Turns.{closed, closing_turned, done_as, file_found, gone, holder_showed, is_to, linked_showed, linkto_answered, looked_up, lookup_after, section_turned, shown_at, stopped, survey_answered, surveyed, wants_linkto};
+ghost use Rattle.dht_resolve.specs.Turns.{closed, done_as, file_found, gone, holder_showed, is_to, linked_showed, linkto_answered, looked_up, lookup_after, release_turned, section_turned, shown_at, stopped, survey_answered, surveyed, wants_linkto};
 ghost use Rattle.dht_resolve.specs.LookupLaws.{lookup_permitted, lookup_stable};
 
 use super::cache::Cache;
 use dht_brick::replies::{Given, Reply};
 use dht_brick::requests::{NameRequest, Request};
 use dht_hash::dm_hash;
-use dht_section::closing::Closing;
 use dht_section::location::Location;
 use dht_section::looks::{Linkto, Place, What, lengthen};
 use dht_section::machine::{Ask, Finish, Machine, Turn, fault_finish};
+use dht_section::release::Release;
 use dht_section::replies::{fault_of, is_carried, is_shown, range_shown};
 use dht_section::section::{Held, Opened, Prepared, Section, shows_gone};
 use dht_types::calls::Answer;
@@ -38,13 +39,22 @@ use dht_xattr::layout::{Layout, holder};
 use dht_xattr::linkto::{linkto_brick_of, linkto_value_of};
 use std::alloc::{AllocError, Global};
 
-/// What a lookup hands out: its answer; the brick of the file, where the answer is a file; and the
-/// layout of the directory, where it has read the range of every brick.
+/// What a lookup answers: the brick of the file, where the answer is a file; and the layout of the
+/// directory, where it has read the range of every brick.
 #[derive(Clone, Copy)]
-pub struct Resolved {
+pub struct Answered {
+    pub location: Location,
     pub finish: Finish,
     pub place: Option<BrickNo>,
     pub layout: Option<Layout>,
+}
+
+/// What a lookup hands out: what it answers; and the memory of its section, to be used again, where
+/// the answer is a file or a directory.
+#[derive(Drop)]
+pub struct Resolved {
+    pub answered: Answered,
+    pub room: Option<Prepared>,
 }
 
 /// What one look shows of a name.
@@ -95,8 +105,8 @@ pub enum Lookup {
     LookingEverywhere(Location, Section, Option<Layout>),
     /// The answer is known, and the next lookup is to find the file by its holder.
     LayingLinkto(Misplaced),
-    /// The answer is known, with the brick of the file.
-    Ending(Closing, Option<BrickNo>, Option<Layout>),
+    /// The answer is known.
+    Ending(Release, Answered),
 }
 
 /// What a lookup answers.
@@ -145,49 +155,62 @@ fn shown_as(bricks: u16, reply: &Reply) -> Shown
     }
 }
 
-/// The lookup is done, and answers so.
-fn done(finish: Finish, place: Option<BrickNo>, layout: Option<Layout>) -> Turn<Lookup, Resolved>
-    ensures { result ≡ done_as finish place layout }
+/// The lookup is done, and has no answer that another part could go on from.
+fn done(location: Location, finish: Finish, layout: Option<Layout>) -> Turn<Lookup, Resolved>
+    ensures { result ≡ done_as location finish layout }
 {
     Turn::Done(Resolved {
-        finish,
-        place,
-        layout,
+        answered: Answered {
+            location,
+            finish,
+            place: None,
+            layout,
+        },
+        room: None,
     })
 }
 
 /// The lookup was stopped by this error.
-fn stopped(errno: Errno, layout: Option<Layout>) -> Turn<Lookup, Resolved>
-    ensures { result ≡ stopped errno layout }
+fn stopped(location: Location, errno: Errno, layout: Option<Layout>) -> Turn<Lookup, Resolved>
+    ensures { result ≡ stopped location errno layout }
 {
-    done(fault_finish(errno), None, layout)
+    done(location, fault_finish(errno), layout)
 }
 
 /// The directory was gone, at this line.
-fn gone(at: u64, layout: Option<Layout>) -> Turn<Lookup, Resolved>
-    ensures { result ≡ gone at layout }
+fn gone(location: Location, at: u64, layout: Option<Layout>) -> Turn<Lookup, Resolved>
+    ensures { result ≡ gone location at layout }
 {
     let finish = Finish {
         answer: Answer::Fault(Errno::Estale),
         at: Some(at),
     };
-    done(finish, None, layout)
+    done(location, finish, layout)
 }
 
 /// The brick that is looked at shows the name, at this line: as this file or directory.
 fn shown_at(
-    sought: &Sought,
+    sought: Sought,
+    prepared: Prepared,
     answer: Answer,
     place: Option<BrickNo>,
     at: u64,
 ) -> Turn<Lookup, Resolved>
-    ensures { result ≡ shown_at sought.now answer place at }
+    ensures { result ≡ shown_at sought prepared answer place at }
 {
     let finish = Finish {
         answer,
         at: Some(at),
     };
-    done(finish, place, sought.learned)
+    Turn::Done(Resolved {
+        answered: Answered {
+            location: sought.location,
+            finish,
+            place,
+            layout: sought.learned,
+        },
+        room: Some(prepared),
+    })
 }
 
 /// The brick that holds a name by a layout.
@@ -238,7 +261,7 @@ fn survey_answered(
     ensures { result ≡ survey_answered location prepared brick layout reply.now at }
 {
     if shows_gone(location.directory, brick, reply) {
-        return gone(at, None);
+        return gone(location, at, None);
     }
     if is_shown(reply) {
         let layout = lengthen(layout, range_shown(reply));
@@ -258,8 +281,8 @@ fn holder_showed(
     ensures { result ≡ holder_showed sought prepared shown at }
 {
     match shown {
-        Shown::File(file) => shown_at(&sought, Answer::File(file), Some(sought.brick), at),
-        Shown::Dir(directory) => shown_at(&sought, Answer::Dir(directory), None, at),
+        Shown::File(file) => shown_at(sought, prepared, Answer::File(file), Some(sought.brick), at),
+        Shown::Dir(directory) => shown_at(sought, prepared, Answer::Dir(directory), None, at),
         Shown::Leads(brick) => Turn::Go(Lookup::FollowingLinkto(
             Sought { brick, ..sought },
             prepared,
@@ -280,8 +303,8 @@ fn linked_showed(
     ensures { result ≡ linked_showed sought prepared shown at }
 {
     match shown {
-        Shown::File(file) => shown_at(&sought, Answer::File(file), Some(sought.brick), at),
-        Shown::Dir(directory) => shown_at(&sought, Answer::Dir(directory), None, at),
+        Shown::File(file) => shown_at(sought, prepared, Answer::File(file), Some(sought.brick), at),
+        Shown::Dir(directory) => shown_at(sought, prepared, Answer::Dir(directory), None, at),
         _ => Turn::Go(Lookup::LookingEverywhere(sought.location, prepared.begin(), sought.learned)),
     }
 }
@@ -313,7 +336,13 @@ fn close(location: Location, held: Held, finish: Finish, place: Option<BrickNo>)
     ensures { result ≡ closed location held finish place }
 {
     let layout = held.layout(location.directory, &location.name);
-    Lookup::Ending(held.close(finish), place, Some(layout))
+    let answered = Answered {
+        location,
+        finish,
+        place,
+        layout: Some(layout),
+    };
+    Lookup::Ending(held.release(), answered)
 }
 
 /// What a lookup answers whose section is held.
@@ -395,22 +424,21 @@ fn section_turned(
     match turn {
         Turn::Go(section) => Turn::Go(Lookup::LookingEverywhere(location, section, learned)),
         Turn::Done(Opened::Held(held)) => Turn::Go(looked_up(location, held)),
-        Turn::Done(Opened::Gone(_, line)) => gone(line, learned),
-        Turn::Done(Opened::Stopped(errno)) => stopped(errno, learned),
+        Turn::Done(Opened::Gone(_, line)) => gone(location, line, learned),
+        Turn::Done(Opened::Stopped(errno)) => stopped(location, errno, learned),
     }
 }
 
-/// After a reply to the closing.
-fn closing_turned(
-    turn: Turn<Closing, Finish>,
-    place: Option<BrickNo>,
-    learned: Option<Layout>,
-) -> Turn<Lookup, Resolved>
-    ensures { result ≡ closing_turned turn place learned }
+/// After a reply to the release.
+fn release_turned(turn: Turn<Release, Prepared>, answered: Answered) -> Turn<Lookup, Resolved>
+    ensures { result ≡ release_turned turn answered }
 {
     match turn {
-        Turn::Go(closing) => Turn::Go(Lookup::Ending(closing, place, learned)),
-        Turn::Done(finish) => done(finish, place, learned),
+        Turn::Go(release) => Turn::Go(Lookup::Ending(release, answered)),
+        Turn::Done(room) => Turn::Done(Resolved {
+            answered,
+            room: Some(room),
+        }),
     }
 }
 
@@ -454,13 +482,35 @@ impl Lookup {
         ensures steps { IfOk result (λ m. (lookup_stage m).variant
             ≤ lookup_steps location (layout_at cache.now location.directory)) }
     {
-        let prepared = location.prepare(alloc)?;
-        match cache.get(location.directory) {
-            Some(layout) => Ok(aim(location, prepared, None, layout)),
-            None => {
-                let first = BrickNo(0);
-                Ok(Lookup::Surveying(location, prepared, first, Layout::empty()))
-            }
+        let room = location.prepare(alloc)?;
+        Ok(Lookup::with_room(room, location, cache.get(location.directory), None))
+    }
+
+    /// The lookup of a name once more, with the memory of one that ended. This layout was read by
+    /// then, if one was.
+    pub fn again(room: Prepared, location: Location, read: Option<Layout>) -> Lookup
+        ensures again { result ≡ lookup_again room location read }
+        ensures knows { (s : Scene) → IsRoom location room s → (lookup_stage result).knows s }
+        ensures steps { (s : Scene) → IsRoom location room s
+            → (lookup_stage result).variant ≤ lookup_steps location read }
+    {
+        let learned = read;
+        Lookup::with_room(room, location, read.as_ref(), learned)
+    }
+
+    /// The lookup of a name with this memory, by this layout, if there is one; the call has learned
+    /// that layout, or none.
+    fn with_room(
+        room: Prepared,
+        location: Location,
+        layout: Option<&Layout>,
+        learned: Option<Layout>,
+    ) -> Lookup
+        ensures { result ≡ lookup_with room location (option_copied layout.entry) learned }
+    {
+        match layout {
+            Some(layout) => aim(location, room, learned, layout),
+            None => Lookup::Surveying(location, room, BrickNo(0), Layout::empty()),
         }
     }
 
@@ -471,11 +521,11 @@ impl Lookup {
         let fault = fault_of(&reply);
         match self {
             Lookup::Surveying(location, prepared, brick, layout) => match fault {
-                Some(errno) => stopped(errno, None),
+                Some(errno) => stopped(location, errno, None),
                 None => survey_answered(location, prepared, brick, layout, &reply, at),
             },
             Lookup::LookingAtHolder(sought, prepared) => match fault {
-                Some(errno) => stopped(errno, sought.learned),
+                Some(errno) => stopped(sought.location, errno, sought.learned),
                 None if is_shown(&reply) => {
                     holder_showed(
                         sought,
@@ -487,7 +537,7 @@ impl Lookup {
                 None => Turn::Go(Lookup::LookingAtHolder(sought, prepared)),
             },
             Lookup::FollowingLinkto(sought, prepared) => match fault {
-                Some(errno) => stopped(errno, sought.learned),
+                Some(errno) => stopped(sought.location, errno, sought.learned),
                 None if is_shown(&reply) => {
                     linked_showed(
                         sought,
@@ -502,8 +552,8 @@ impl Lookup {
                 section_turned(location, section.take(reply, at), learned)
             }
             Lookup::LayingLinkto(misplaced) => Turn::Go(linkto_answered(misplaced, &reply)),
-            Lookup::Ending(closing, place, learned) => {
-                closing_turned(closing.take(reply, at), place, learned)
+            Lookup::Ending(release, answered) => {
+                release_turned(release.take(reply, at), answered)
             }
         }
     }
@@ -526,7 +576,7 @@ impl Machine for Lookup {
             Lookup::FollowingLinkto(sought, _) => look_ask(sought),
             Lookup::LookingEverywhere(_, section, _) => section.next(),
             Lookup::LayingLinkto(misplaced) => linkto_ask(misplaced),
-            Lookup::Ending(closing, _, _) => closing.next(),
+            Lookup::Ending(release, _) => release.next(),
         }
     }
 

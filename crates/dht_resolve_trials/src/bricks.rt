@@ -27,7 +27,7 @@ const OTHER: ClientNo = ClientNo(4);
 const MANY: u64 = 100;
 
 /// How a lookup ended: what it handed out, and how many requests it sent.
-#[derive(Clone, Copy)]
+#[derive(Drop)]
 pub struct Ended {
     pub resolved: Resolved,
     pub requests: u64,

@@ -4,7 +4,7 @@
 use crate::bricks::{Bricks, Ended};
 use dht_brick::requests::NameRequest;
 use dht_resolve::cache::Cache;
-use dht_resolve::lookup::{Lookup, holder_in};
+use dht_resolve::lookup::{Lookup, Resolved, holder_in};
 use dht_section::location::Location;
 use dht_types::calls::Answer;
 use dht_types::identifiers::{BrickNo, Gfid};
@@ -137,16 +137,19 @@ fn assert_finds(
     requests: u64,
 ) -> Result<Option<Layout>, Fail> {
     let count = trial.bricks;
-    let ended = trial.look_up(rt.alloc(), bricks, layout)?;
-    let finish = ended.resolved.finish;
+    let Ended {
+        resolved,
+        requests: sent,
+    } = trial.look_up(rt.alloc(), bricks, layout)?;
+    let Resolved { answered, room: _ } = resolved;
     assert!(rt;
-        matches!(finish.answer, Answer::File(FILE)),
+        matches!(answered.finish.answer, Answer::File(FILE)),
         "{count} bricks"
     );
-    assert!(rt; ended.resolved.place == Some(trial.place), "{count} bricks");
-    assert_eq!(rt; finish.at, Some(at), "{count} bricks");
-    assert_eq!(rt; ended.requests, requests, "{count} bricks");
-    Ok(ended.resolved.layout)
+    assert!(rt; answered.place == Some(trial.place), "{count} bricks");
+    assert_eq!(rt; answered.finish.at, Some(at), "{count} bricks");
+    assert_eq!(rt; sent, requests, "{count} bricks");
+    Ok(answered.layout)
 }
 
 /// A first lookup answers the file at this line, after so many requests, and learns the layout; and
@@ -257,6 +260,45 @@ fn a_linkto_to_a_brick_without_the_file_is_replaced(rt: HostRuntime) -> Result<(
 fn a_linkto_comes_where_none_is(rt: HostRuntime) -> Result<(), Fail> {
     for trial in &away() {
         assert_searched(&rt, trial, None, 1)?;
+    }
+    Ok(())
+}
+
+/// The memory of a first lookup, and the layout that it has read, serve another, which finds the file
+/// with its last of so many requests.
+fn assert_again(
+    rt: &(impl Abort + AllocGlobal),
+    trial: &Trial,
+    linkto: Option<&LinktoValue>,
+    next: u64,
+) -> Result<(), Fail> {
+    let mut bricks = trial.begin(rt.alloc(), linkto)?;
+    let Ended {
+        resolved,
+        requests: _,
+    } = trial.look_up(rt.alloc(), &mut bricks, None)?;
+    let Resolved { answered, room } = resolved;
+    let Some(room) = room else {
+        return Err(Fail::new("no memory"));
+    };
+    let again = Lookup::again(room, answered.location, answered.layout);
+    let Ended { resolved, requests } = bricks.carry_out(again)?;
+    let Resolved { answered, room } = resolved;
+    assert_eq!(rt; requests, next, "{} bricks", trial.bricks);
+    assert!(rt; matches!(answered.finish.answer, Answer::File(FILE)));
+    assert!(rt; answered.place == Some(trial.place));
+    assert!(rt; room.is_some());
+    bricks.is_free(&Key::Dir(Gfid::ROOT))
+}
+
+#[test]
+fn a_lookup_runs_again_in_the_same_memory(rt: HostRuntime) -> Result<(), Fail> {
+    for trial in &at_holder() {
+        assert_again(&rt, trial, None, 1)?;
+    }
+    for trial in &away() {
+        // the first one has searched under its locks and laid the linkto
+        assert_again(&rt, trial, None, 2)?;
     }
     Ok(())
 }

@@ -21,12 +21,13 @@ use Rattle.dht_world.specs.Following.{IsEnd, IsUnderStep, IsUnderCall, IsUnder, 
 abbrev Quiet : History → History → Type 0
 Quiet s t = t.requests ≡ s.requests
 
-tree_step : (s : History) (step : TreeStep) (o : Option Owed) → Quiet s (with_step s step o)
-tree_step s step None = refl
-tree_step s step (Some o) = refl
+tree_step : (s : History) (step : TreeStep) (owed allowed : Option Owed) → Quiet s (with_step s step owed allowed)
+tree_step s step None None = refl
+tree_step s step None (Some o) = refl
+tree_step s step (Some o) allowed = refl
 
 tree_line : (s : History) (k : CallNo) (step : TreeStep) → Quiet s (with_line s (Tree k step))
-tree_line s k step = tree_step s step s.owed
+tree_line s k step = tree_step s step s.owed s.allowed
 
 end_quiet : (s : History) (k : CallNo) (c : ClientNo) (lines : List Line) → IsEnd k c lines → Quiet s (with_lines s lines)
 end_quiet s k c [] h = refl

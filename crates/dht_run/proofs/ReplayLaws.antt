@@ -157,6 +157,7 @@ transcript_of b c goes_on w events lines led comes limited =
       legal = led.legal;
       follows = comes;
       logged = fit.logged;
+      noted = led.noted;
       stands = λ some. stands_of d s claims fit.kept fit.early;
       placed = λ e f first h. placed_of d s claims e f fit.kept fit.early first h;
       in_time = led.in_time;

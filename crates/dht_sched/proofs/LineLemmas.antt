@@ -1,5 +1,5 @@
 -- The lines of events: what is read is what was spelled, and a line is of one event.
-use Rattle.std.proofs.Common.{◌≡◌, ◌≢◌, ℕ, ◌*◌, ◌≤◌, ◌<◌, ◌^◌, false, List, [], ◌∷◌, ◌++◌, inl, inr, length, map, decimal, codes, All, refl, sym, ap, subst, ◌∙◌, arith, lit<, get_or, Bor}
+use Rattle.std.proofs.Common.{◌≡◌, ◌≢◌, ℕ, ◌*◌, ◌==◌, if◌then◌else◌, ◌≤◌, ◌<◌, ◌^◌, false, List, [], ◌∷◌, ◌++◌, inl, inr, length, map, decimal, codes, All, refl, sym, ap, subst, ◌∙◌, arith, lit<, get_or, Bor}
 use Rattle.std.specs.Prelude.{Option, Some, None, is_some, MatchOption, Result, Ok, Err, IfOk, IsErrOf}
 use Rattle.std.specs.List.{AllByRecursion}
 use Rattle.std.specs.Option.{ok_or}
@@ -8,7 +8,7 @@ use Rattle.std.proofs.lemmas.Fmt.{decimal_injective, length-decimal-le}
 use Rattle.std.proofs.lemmas.List.Elements.{recursion_from_All}
 use Rattle.dht_types.specs.Calls.{directory_of, name_of}
 use Rattle.dht_types.specs.declared.calls.Call.{Call}
-use Rattle.dht_types.specs.declared.calls.Call.TheVariants.{Lookup, Create, Unlink}
+use Rattle.dht_types.specs.declared.calls.Call.TheVariants.{Lookup, Create, Mkdir, Unlink, Rmdir, Heal}
 use Rattle.dht_types.specs.declared.events.Directory.{Directory}
 use Rattle.dht_types.specs.declared.events.Event.{Event}
 use Rattle.dht_types.specs.declared.events.Event.TheVariants.{Volume, Remount, Call as Called, Step, Down, Up, Die}
@@ -17,8 +17,8 @@ use Rattle.dht_sched.specs.declared.fault.LineFault.TheVariants.{Malformed, OutO
 use Rattle.dht_sched.specs.Reading.{Reads, ReadsUnless}
 use Rattle.dht_types.specs.Volume.{HasWeight}
 use Rattle.dht_sched.specs.Kinds.{verb_word}
-use Rattle.dht_sched.specs.Schedule.{call_words, schedule_words, schedule_text, IsShort, IsScheduled, IsScheduledVolume, IsScheduledCall, TakesMemory, IsReadOf, IsOneLine}
-use Rattle.dht_sched.specs.Spelling.{bricks_words, spaced, words_of}
+use Rattle.dht_sched.specs.Schedule.{directory_word, call_words, schedule_words, schedule_text, IsShort, IsScheduled, IsScheduledVolume, IsScheduledCall, TakesMemory, IsReadOf, IsOneLine}
+use Rattle.dht_sched.specs.Spelling.{HasBytes, bricks_words, name_words, spaced, words_of}
 use Rattle.dht_sched.proofs.DirectoryLemmas.{directory_is_word, same_directory}
 use Rattle.dht_sched.proofs.NameLemmas.{same_name, name_word}
 use Rattle.dht_sched.proofs.NumberLemmas.{decimal_word}
@@ -59,10 +59,17 @@ weight_words (x ∷ w) light = (decimal_word x (let l = light.0 in omega arith),
 verb_is_word : (call : Call Directory) → IsWord (verb_word call)
 verb_is_word (Lookup d n) = refl
 verb_is_word (Create d n) = refl
+verb_is_word (Mkdir d n) = refl
 verb_is_word (Unlink d n) = refl
+verb_is_word (Rmdir d n) = refl
+verb_is_word (Heal d) = refl
+
+names_are_words : (name : Option (List ℕ)) → HasBytes name → AllByRecursion IsWord (name_words name)
+names_are_words None h = tt
+names_are_words (Some n) h = (name_word n h, tt)
 
 call_words_are : (c : ℕ) (call : Call Directory) → IsScheduledCall c call → AllByRecursion IsWord (schedule_words (Called c call))
-call_words_are c call h = (refl, (decimal_word c h.client, (verb_is_word call, (directory_is_word (directory_of call) h.directory, (name_word (name_of call) h.name, tt)))))
+call_words_are c call h = (refl, (decimal_word c h.client, (verb_is_word call, (directory_is_word (directory_of call) h.directory, names_are_words (name_of call) h.name))))
 
 number_words_are : (word : List ℕ) (c : ℕ) → IsWord word → c < 2 ^ 64 → AllByRecursion IsWord (word ∷ decimal c ∷ [])
 number_words_are word c h small = (h, (decimal_word c small, tt))
@@ -123,21 +130,38 @@ second [] = 0
 second (word ∷ words) = get_or word 1 0
 
 -- a call is told by its verb's first letter, its directory and its name
+call_told : ℕ → Directory → Option (List ℕ) → Call Directory
+call_told first d None = Heal d
+call_told first d (Some n) =
+    if first == 108 then Lookup d n
+    else if first == 99 then Create d n
+    else if first == 109 then Mkdir d n
+    else if first == 117 then Unlink d n
+    else Rmdir d n
+
+told : (call : Call Directory) → call_told (letter (verb_word call)) (directory_of call) (name_of call) ≡ call
+unfolding call_told
+told (Lookup d n) = refl
+told (Create d n) = refl
+told (Mkdir d n) = refl
+told (Unlink d n) = refl
+told (Rmdir d n) = refl
+told (Heal d) = refl
+
 same_call : (a b : Call Directory) → verb_word a ≡ verb_word b → directory_of a ≡ directory_of b → name_of a ≡ name_of b → a ≡ b
-same_call (Lookup d m) (Lookup e n) verb directory name = cc
-same_call (Lookup d m) (Create e n) verb directory name = absurd (let letters : 108 ≡ 99 = ap letter verb in omega arith)
-same_call (Lookup d m) (Unlink e n) verb directory name = absurd (let letters : 108 ≡ 117 = ap letter verb in omega arith)
-same_call (Create d m) (Lookup e n) verb directory name = absurd (let letters : 99 ≡ 108 = ap letter verb in omega arith)
-same_call (Create d m) (Create e n) verb directory name = cc
-same_call (Create d m) (Unlink e n) verb directory name = absurd (let letters : 99 ≡ 117 = ap letter verb in omega arith)
-same_call (Unlink d m) (Lookup e n) verb directory name = absurd (let letters : 117 ≡ 108 = ap letter verb in omega arith)
-same_call (Unlink d m) (Create e n) verb directory name = absurd (let letters : 117 ≡ 99 = ap letter verb in omega arith)
-same_call (Unlink d m) (Unlink e n) verb directory name = cc
+same_call a b verb directory name =
+    sym (told a) ∙ (λ i. call_told (letter (verb i)) (directory i) (name i)) ∙ told b
+
+same_names : (a b : Option (List ℕ)) → HasBytes a → HasBytes b → name_words a ≡ name_words b → a ≡ b
+same_names None None ha hb same = refl
+same_names None (Some n) ha hb same = absurd (cc same)
+same_names (Some m) None ha hb same = absurd (cc same)
+same_names (Some m) (Some n) ha hb same = ap Some (same_name m n ha hb (cc same))
 
 call_by_words : (c : ℕ) (x : Call Directory) (e : ℕ) (y : Call Directory) → IsScheduledCall c x → IsScheduledCall e y → decimal c ∷ call_words x ≡ decimal e ∷ call_words y → (c ≡ e) × (x ≡ y)
 call_by_words c x e y hx hy same =
     let directory = same_directory (directory_of x) (directory_of y) hx.directory hy.directory (cc same) in
-    let name = same_name (name_of x) (name_of y) hx.name hy.name (cc same) in
+    let name = same_names (name_of x) (name_of y) hx.name hy.name (cc same) in
     (decimal_injective c e hx.client hy.client (cc same), same_call x y (cc same) directory name)
 
 same_bricks : (v w : List ℕ) → IsScheduledVolume v → IsScheduledVolume w → map decimal v ≡ map decimal w → v ≡ w
@@ -268,6 +292,27 @@ no_call words none (Step c) h same = absurd (let letters : 115 ≡ 99 = ap kind 
 no_call words none (Down b) h same = absurd (let letters : 100 ≡ 99 = ap kind same in omega arith)
 no_call words none (Up b) h same = absurd (let letters : 117 ≡ 99 = ap kind same in omega arith)
 no_call words none (Die c) h same = absurd (let letters : 100 ≡ 99 = ap kind same in omega arith)
+
+-- a word that is no verb with a name
+pub no_verb_with_name : (verb name : List ℕ) → verb ≢ codes "lookup" → verb ≢ codes "create" → verb ≢ codes "mkdir" → verb ≢ codes "unlink" → verb ≢ codes "rmdir"
+    → (call : Call Directory) → name_of call ≡ Some name → verb_word call ≢ verb
+no_verb_with_name verb name lookup create mkdir unlink rmdir (Lookup d n) has same = lookup (sym same)
+no_verb_with_name verb name lookup create mkdir unlink rmdir (Create d n) has same = create (sym same)
+no_verb_with_name verb name lookup create mkdir unlink rmdir (Mkdir d n) has same = mkdir (sym same)
+no_verb_with_name verb name lookup create mkdir unlink rmdir (Unlink d n) has same = unlink (sym same)
+no_verb_with_name verb name lookup create mkdir unlink rmdir (Rmdir d n) has same = rmdir (sym same)
+no_verb_with_name verb name lookup create mkdir unlink rmdir (Heal d) has same = cc has
+
+-- words whose verb is none
+pub no_verb : (words rest others left : List (List ℕ)) (verb : List ℕ) (client : ℕ) (directory : Directory) (name : Option (List ℕ))
+    → words ≡ decimal client ∷ rest → rest ≡ verb ∷ others → others ≡ directory_word directory ∷ left → HasBytes name → name_words name ≡ left
+    → ((call : Call Directory) → name_of call ≡ name → verb_word call ≢ verb) → (e : Event) → IsScheduled e → schedule_words e ≢ codes "call" ∷ words
+no_verb words rest others left verb client directory name first second third has fourth none =
+    no_call words (λ c call h same.
+    let all : decimal client ∷ verb ∷ directory_word directory ∷ name_words name ≡ decimal c ∷ call_words call =
+    ap (λ w. decimal client ∷ verb ∷ directory_word directory ∷ w) fourth ∙ ap (λ w. decimal client ∷ verb ∷ w) (sym third) ∙ ap (λ w. decimal client ∷ w) (sym second) ∙ sym first ∙ same in
+    let named : name_of call ≡ name = same_names (name_of call) name h.name has (cc all) in
+    none call named (cc all))
 
 -- where no item came, none was left
 pub none_left : (words rest : List (List ℕ)) (o : Option (Bor (List ℕ))) → MatchOption o ((words ≡ []) × (rest ≡ [])) (λ x. words ≡ x.now ∷ rest) → is_some o ≡ false → words ≡ []

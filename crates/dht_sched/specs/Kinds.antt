@@ -13,7 +13,10 @@ use Rattle.dht_types.specs.declared.lines.ReplyKind.TheVariants as reply
 abbrev pub verb_word : {D : Type 0} → Call D → List ℕ
 verb_word (call.Lookup d n) = codes "lookup"
 verb_word (call.Create d n) = codes "create"
+verb_word (call.Mkdir d n) = codes "mkdir"
 verb_word (call.Unlink d n) = codes "unlink"
+verb_word (call.Rmdir d n) = codes "rmdir"
+verb_word (call.Heal d) = codes "heal"
 
 abbrev pub request_word : RequestKind → List ℕ
 request_word request.Lock = codes "lock"

@@ -1,10 +1,11 @@
 -- What it is to print at the end of a text.
 use Rattle.std.specs.Prelude.{ℕ, ◌≡◌, ◌++◌, List, [], ◌∷◌, map, decimal, Result, Ok, Err}
 use Rattle.std.specs.List.{flat_map}
+use Rattle.std.specs.Option.{option_copied}
 use Rattle.dht_types.specs.Text.{gfid_text}
 use Rattle.dht_sched.specs.declared.fields.Field.{Field}
 use Rattle.dht_sched.specs.declared.fields.Field.TheVariants as field
-use Rattle.dht_sched.specs.Spelling.{spelled}
+use Rattle.dht_sched.specs.Spelling.{name_words, spelled}
 use Rattle.dht_sched.specs.Dump.{value_word, main_words, standby_words, record_words}
 use Rattle.dht_sched.specs.Transcript.{point_words}
 
@@ -20,6 +21,7 @@ field_words (field.Number n) = decimal n ∷ []
 field_words (field.Numbers ns) = map decimal ns.now
 field_words (field.Point point) = point_words point
 field_words (field.Name n) = spelled n.now ∷ []
+field_words (field.CallName n) = name_words (option_copied n)
 field_words (field.Gfid g) = gfid_text g ∷ []
 field_words (field.Value value) = value_word value.now ∷ []
 field_words (field.Main main) = main_words main.now

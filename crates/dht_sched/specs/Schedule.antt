@@ -1,5 +1,5 @@
 -- The lines of a schedule: the text of an event, and which events have a line.
-use Rattle.std.specs.Prelude.{ℕ, ◌^◌, ◌≡◌, ◌≤◌, ◌<◌, ◌⊎◌, List, [], ◌∷◌, ◌++◌, length, codes, decimal, All, Contains, Result, Ok, Err}
+use Rattle.std.specs.Prelude.{ℕ, ◌^◌, ◌≡◌, ◌≢◌, ◌≤◌, ◌<◌, ◌⊎◌, Option, Some, None, List, [], ◌∷◌, ◌++◌, length, codes, decimal, All, Contains, Result, Ok, Err}
 use Rattle.dht_types.specs.Calls.{directory_of, name_of}
 use Rattle.dht_types.specs.Text.{gfid_text}
 use Rattle.dht_types.specs.Volume.{HasWeight}
@@ -11,7 +11,7 @@ use Rattle.dht_types.specs.declared.events.Event.TheVariants.{Volume, Remount, C
 use Rattle.dht_sched.specs.declared.fault.LineFault.{LineFault}
 use Rattle.dht_sched.specs.declared.fault.LineFault.TheVariants.{OutOfMemory}
 use Rattle.dht_sched.specs.Kinds.{verb_word}
-use Rattle.dht_sched.specs.Spelling.{AreBytes, bricks_words, spaced, spelled}
+use Rattle.dht_sched.specs.Spelling.{HasBytes, bricks_words, name_words, spaced}
 
 -- a directory: `@` for the root, `@` and a call's number for what the call answered, or its gfid
 abbrev pub directory_word : Directory → List ℕ
@@ -20,7 +20,7 @@ directory_word (OfCall k) = codes "@" ++ decimal k
 directory_word (OfGfid g) = gfid_text g
 
 abbrev pub call_words : Call Directory → List (List ℕ)
-call_words call = verb_word call ∷ directory_word (directory_of call) ∷ spelled (name_of call) ∷ []
+call_words call = verb_word call ∷ directory_word (directory_of call) ∷ name_words (name_of call)
 
 abbrev pub schedule_words : Event → List (List ℕ)
 schedule_words (Volume w) = codes "volume" ∷ bricks_words w
@@ -30,6 +30,12 @@ schedule_words (Step c) = codes "step" ∷ decimal c ∷ []
 schedule_words (Down b) = codes "down" ∷ decimal b ∷ []
 schedule_words (Up b) = codes "up" ∷ decimal b ∷ []
 schedule_words (Die c) = codes "die" ∷ decimal c ∷ []
+
+-- the call of this verb, directory and name, and where it is none there is no such call
+abbrev pub IsCallOf : List ℕ → Directory → Option (List ℕ) → Option (Call Directory) → Type 0
+IsCallOf verb directory name None = (call : Call Directory) → name_of call ≡ name → verb_word call ≢ verb
+IsCallOf verb directory name (Some call) =
+    (verb_word call ≡ verb) × (directory_of call ≡ directory) × (name_of call ≡ name)
 
 -- the one line of an event, without its newline
 abbrev pub schedule_text : Event → List ℕ
@@ -56,7 +62,7 @@ IsScheduledDirectory (OfGfid g) = g.0 < 2 ^ 128
 pub record IsScheduledCall (c : ℕ) (call : Call Directory) : Type 0 where
   pub client : c < 2 ^ 64
   pub directory : IsScheduledDirectory (directory_of call)
-  pub name : AreBytes (name_of call)
+  pub name : HasBytes (name_of call)
   pub short : IsShort (schedule_text (Called c call))
 
 -- the events that have a line. Whether there is such a client or brick is not asked

@@ -1,5 +1,5 @@
 -- How words and names are spelled in a line.
-use Rattle.std.specs.Prelude.{ℕ, Bool, ◌/◌, ◌%◌, ◌==◌, ◌<◌, ◌&&◌, not, nat_le, if◌then◌else◌, Option, Some, None, List, [], ◌∷◌, length, map, codes, decimal, All}
+use Rattle.std.specs.Prelude.{ℕ, Bool, ◌/◌, ◌%◌, ◌==◌, ◌<◌, ◌&&◌, not, nat_le, if◌then◌else◌, Option, Some, None, List, [], ◌∷◌, length, map, codes, decimal, All, IfSome}
 use Rattle.std.specs.List.{flat_map, join_with_byte, slice_split}
 use Rattle.dht_types.specs.Text.{hex_digit}
 
@@ -36,3 +36,11 @@ spelled (b ∷ bs) = flat_map spelled_byte (b ∷ bs)
 -- the bytes that a name may have
 abbrev pub AreBytes : List ℕ → Type 0
 AreBytes name = All (λ b. b < 256) name
+
+-- the name of a call, if it has one
+abbrev pub name_words : Option (List ℕ) → List (List ℕ)
+name_words None = []
+name_words (Some name) = spelled name ∷ []
+
+abbrev pub HasBytes : Option (List ℕ) → Type 0
+HasBytes name = IfSome name AreBytes

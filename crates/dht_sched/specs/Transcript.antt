@@ -9,7 +9,7 @@ use Rattle.dht_types.specs.declared.calls.Call.{Call}
 use Rattle.dht_types.specs.declared.calls.Answer.{Answer}
 use Rattle.dht_types.specs.declared.calls.Answer.TheVariants.{File, Dir, Made, Done, Fault}
 use Rattle.dht_types.specs.declared.calls.TreeStep.{TreeStep}
-use Rattle.dht_types.specs.declared.calls.TreeStep.TheVariants.{AddFile, RemoveFile}
+use Rattle.dht_types.specs.declared.calls.TreeStep.TheVariants.{AddFile, AddDir, RemoveFile, RemoveDir}
 use Rattle.dht_types.specs.declared.lines.Cause.{Cause}
 use Rattle.dht_types.specs.declared.lines.Cause.TheVariants.{Unknown, Dead, Busy, Idle, Answer as OfAnswer, Open, Fewer}
 use Rattle.dht_types.specs.declared.lines.Line.{Line}
@@ -17,18 +17,20 @@ use Rattle.dht_types.specs.declared.lines.Line.TheVariants.{Volume, Remounted, C
 use Rattle.dht_types.specs.declared.lines.DumpLine.{DumpLine}
 use Rattle.dht_sched.specs.Dump.{dump_words}
 use Rattle.dht_sched.specs.Kinds.{verb_word, request_word, reply_word}
-use Rattle.dht_sched.specs.Spelling.{bricks_words, spaced, spelled}
+use Rattle.dht_sched.specs.Spelling.{bricks_words, name_words, spaced, spelled}
 
 -- the line of these words
 abbrev pub text_of : List (List ℕ) → List ℕ
 text_of words = spaced words ++ 10 ∷ []
 
 abbrev pub called_words : Call Gfid → List (List ℕ)
-called_words call = verb_word call ∷ gfid_text (directory_of call) ∷ spelled (name_of call) ∷ []
+called_words call = verb_word call ∷ gfid_text (directory_of call) ∷ name_words (name_of call)
 
 abbrev pub tree_words : TreeStep → List (List ℕ)
 tree_words (AddFile d n f) = codes "add-file" ∷ gfid_text d ∷ spelled n ∷ gfid_text f ∷ []
+tree_words (AddDir d n g) = codes "add-dir" ∷ gfid_text d ∷ spelled n ∷ gfid_text g ∷ []
 tree_words (RemoveFile d n) = codes "remove-file" ∷ gfid_text d ∷ spelled n ∷ []
+tree_words (RemoveDir d n) = codes "remove-dir" ∷ gfid_text d ∷ spelled n ∷ []
 
 -- the point of an answer, where it has one
 abbrev pub point_words : Option ℕ → List (List ℕ)

@@ -1,13 +1,9 @@
 //! The lines of calls in a schedule, read.
 
-ghost use Rattle.std.specs.Prelude.{◌≡◌, ◌≢◌, ◌<◌, ◌^◌, ◌∷◌, [], MatchOption, codes, decimal};
-ghost use Rattle.dht_types.specs.Calls.{directory_of, name_of};
-ghost use Rattle.dht_types.specs.declared.calls.Call.{Call};
-ghost use Rattle.dht_types.specs.declared.events.Directory.{Directory};
-ghost use Rattle.dht_sched.specs.Kinds.{verb_word};
+ghost use Rattle.std.specs.Prelude.{◌≡◌, ◌≢◌, ◌<◌, ◌^◌, ◌∷◌, [], None, Some, codes, decimal};
 ghost use Rattle.dht_sched.specs.Reading.{Reads, ReadsFirst, ReadsUnless};
-ghost use Rattle.dht_sched.specs.Schedule.{directory_word, schedule_words, IsShort, IsScheduledDirectory, IsScheduled};
-ghost use Rattle.dht_sched.specs.Spelling.{AreBytes, spaced, spelled};
+ghost use Rattle.dht_sched.specs.Schedule.{directory_word, schedule_words, IsCallOf, IsShort, IsScheduledDirectory, IsScheduled};
+ghost use Rattle.dht_sched.specs.Spelling.{HasBytes, name_words, spaced};
 
 use crate::fault::LineFault;
 use crate::names::read_name;
@@ -53,28 +49,51 @@ fn next_directory(words: &mut Words<'_>) -> Result<Directory, LineFault>
     read_directory(word).ok_or(LineFault::Malformed)
 }
 
-/// The name of the next word.
-fn next_name(alloc: Global, words: &mut Words<'_>) -> Result<Bytes, LineFault>
-    ensures { ReadsFirst spelled AreBytes words.old words.new result }
+/// The name of the last word, or none where no word is left.
+fn last_name(alloc: Global, mut words: Words<'_>) -> Result<Option<Bytes>, LineFault>
+    ensures { ReadsUnless name_words HasBytes words.entry result }
 {
     let Some(word) = words.next() else {
-        return Err(LineFault::Malformed);
+        return Ok(None);
     };
-    read_name(alloc, word)
+    let name = read_name(alloc, word)?;
+    if words.next().is_some() {
+        return Err(LineFault::Malformed);
+    }
+    Ok(Some(name))
 }
 
-/// The call of a verb, where there is such a verb.
-fn call_of(verb: &[u8], directory: Directory, name: Bytes) -> Option<Call<Directory>>
-    ensures { MatchOption result
-        ((call : Call Directory) → verb_word call ≢ verb.now)
-        (λ call. (verb_word call ≡ verb.now)
-        × (directory_of call ≡ directory) × (name_of call ≡ name)) }
+/// The call of a verb that takes a name, where there is such a verb.
+fn call_with_name(verb: &[u8], directory: Directory, name: Bytes) -> Option<Call<Directory>>
+    ensures { IsCallOf verb.now directory (Some name) result }
 {
     match verb {
         b"lookup" => Some(Call::Lookup(directory, name)),
         b"create" => Some(Call::Create(directory, name)),
+        b"mkdir" => Some(Call::Mkdir(directory, name)),
         b"unlink" => Some(Call::Unlink(directory, name)),
+        b"rmdir" => Some(Call::Rmdir(directory, name)),
         _ => None,
+    }
+}
+
+/// The call of a verb that takes no name, where there is such a verb.
+fn call_without_name(verb: &[u8], directory: Directory) -> Option<Call<Directory>>
+    ensures { IsCallOf verb.now directory None result }
+{
+    match verb {
+        b"heal" => Some(Call::Heal(directory)),
+        _ => None,
+    }
+}
+
+/// The call of a verb and of what it takes, where there is such a verb.
+fn call_of(verb: &[u8], directory: Directory, name: Option<Bytes>) -> Option<Call<Directory>>
+    ensures { IsCallOf verb.now directory name result }
+{
+    match name {
+        Some(name) => call_with_name(verb, directory, name),
+        None => call_without_name(verb, directory),
     }
 }
 
@@ -88,10 +107,7 @@ pub fn read_call(alloc: Global, mut words: Words<'_>) -> Result<Event, LineFault
         return Err(LineFault::Malformed);
     };
     let directory = next_directory(&mut words)?;
-    let name = next_name(alloc, &mut words)?;
-    if words.next().is_some() {
-        return Err(LineFault::Malformed);
-    }
+    let name = last_name(alloc, words)?;
     let Some(call) = call_of(verb, directory, name) else {
         return Err(LineFault::Malformed);
     };

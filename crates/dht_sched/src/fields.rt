@@ -2,11 +2,12 @@
 
 ghost use Rattle.std.specs.Prelude.{◌≡◌, ◌++◌, ◌∷◌, [], map, decimal, Some, OnOk, OnErr};
 ghost use Rattle.std.specs.List.{flat_map};
+ghost use Rattle.std.specs.Option.{option_copied};
 ghost use Rattle.dht_types.specs.Text.{gfid_text, hex_bytes};
 ghost use Rattle.dht_types.specs.declared.lines.RecordLine.TheVariants.{Forward};
 ghost use Rattle.dht_types.specs.declared.stored.Main.TheVariants.{File};
 ghost use Rattle.dht_sched.specs.Printing.{Appends, field_words, behind_spaces};
-ghost use Rattle.dht_sched.specs.Spelling.{spelled};
+ghost use Rattle.dht_sched.specs.Spelling.{name_words, spelled};
 ghost use Rattle.dht_sched.specs.Dump.{value_word, bytes_word, main_words, standby_words, record_words};
 ghost use Rattle.dht_sched.specs.Transcript.{text_of, point_words};
 
@@ -31,6 +32,8 @@ pub enum Field<'a> {
     Point(Option<u64>),
     /// A name of these bytes, spelled.
     Name(&'a [u8]),
+    /// The name of a call, of these bytes, spelled; and nothing where it has none.
+    CallName(Option<&'a [u8]>),
     /// The text of a gfid.
     Gfid(Gfid),
     /// The attribute of a directory: in hexadecimal digits, `x` where it is empty, and `-` where there
@@ -124,6 +127,17 @@ fn push_name_word(out: &mut Vec<u8>, name: &[u8]) -> Result<(), AllocError>
 {
     out.push(b' ')?;
     push_name(out, name)
+}
+
+/// Appends the name of a call, where it has one.
+fn push_call_name(out: &mut Vec<u8>, name: Option<&[u8]>) -> Result<(), AllocError>
+    ensures { Appends out.old.items out.new.items result
+        (behind_spaces (name_words (option_copied name.entry))) }
+{
+    match name {
+        None => Ok(()),
+        Some(name) => push_name_word(out, name),
+    }
 }
 
 /// Appends a space, and the attribute of a directory.
@@ -269,6 +283,7 @@ fn push_field(out: &mut Vec<u8>, field: &Field<'_>) -> Result<(), AllocError>
         Field::Numbers(numbers) => push_numbers(out, numbers),
         Field::Point(point) => push_point(out, point),
         Field::Name(name) => push_name_word(out, name),
+        Field::CallName(name) => push_call_name(out, name),
         Field::Gfid(gfid) => push_word(out, &gfid.text()),
         Field::Value(value) => push_value(out, value),
         Field::Main(main) => push_main(out, main),

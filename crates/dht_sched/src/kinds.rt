@@ -13,7 +13,10 @@ pub(crate) fn verb_word<D>(call: &Call<D>) -> &'static str
     match call {
         Call::Lookup(_, _) => "lookup",
         Call::Create(_, _) => "create",
+        Call::Mkdir(_, _) => "mkdir",
         Call::Unlink(_, _) => "unlink",
+        Call::Rmdir(_, _) => "rmdir",
+        Call::Heal(_) => "heal",
     }
 }
 

@@ -46,7 +46,7 @@ fn print_call(
     let client = Field::Number(u64::from(client.0));
     let verb = Field::Word(verb_word(call));
     let directory = Field::Gfid(call.directory());
-    let name = Field::Name(call.name());
+    let name = Field::CallName(call.name());
     print_fields(out, "call", &[number, client, verb, directory, name])
 }
 
@@ -101,23 +101,28 @@ fn print_tree(out: &mut Vec<u8>, number: CallNo, step: &TreeStep) -> Result<(), 
     let number = Field::Number(number.0);
     match step {
         TreeStep::AddFile(directory, name, file) => {
-            let directory = Field::Gfid(*directory);
             let name = Field::Name(name.as_bytes());
-            let file = Field::Gfid(*file);
-            print_fields(
-                out,
-                "tree",
-                &[number, Field::Word("add-file"), directory, name, file],
-            )
+            let (directory, file) = (Field::Gfid(*directory), Field::Gfid(*file));
+            let word = Field::Word("add-file");
+            print_fields(out, "tree", &[number, word, directory, name, file])
+        }
+        TreeStep::AddDir(directory, name, made) => {
+            let name = Field::Name(name.as_bytes());
+            let (directory, made) = (Field::Gfid(*directory), Field::Gfid(*made));
+            let word = Field::Word("add-dir");
+            print_fields(out, "tree", &[number, word, directory, name, made])
         }
         TreeStep::RemoveFile(directory, name) => {
-            let directory = Field::Gfid(*directory);
             let name = Field::Name(name.as_bytes());
-            print_fields(
-                out,
-                "tree",
-                &[number, Field::Word("remove-file"), directory, name],
-            )
+            let directory = Field::Gfid(*directory);
+            let word = Field::Word("remove-file");
+            print_fields(out, "tree", &[number, word, directory, name])
+        }
+        TreeStep::RemoveDir(directory, name) => {
+            let name = Field::Name(name.as_bytes());
+            let directory = Field::Gfid(*directory);
+            let word = Field::Word("remove-dir");
+            print_fields(out, "tree", &[number, word, directory, name])
         }
     }
 }

@@ -1,6 +1,6 @@
 -- The section of one name, before its first request.
-use Rattle.std.proofs.Common.{◌≡◌, ◌<◌, ℕ, Bool, true, false, refl, sym, ◌∙◌, ap, subst, arith, inl, inr, List, [], ◌∷◌}
-use Rattle.std.specs.Prelude.{Result, Ok, Err, IfOk, None, zero, suc, length, replicate, Contains, ◌&&◌, ◌||◌, if◌then◌else◌}
+use Rattle.std.proofs.Common.{◌≡◌, ◌<◌, ℕ, Bool, true, false, refl, ◌∙◌, ap, subst, arith, List, [], ◌∷◌}
+use Rattle.std.specs.Prelude.{Result, Ok, Err, IfOk, None, zero, suc, length, replicate, ◌&&◌, ◌||◌, if◌then◌else◌}
 use Rattle.std.proofs.lemmas.List.{length-replicate}
 use Rattle.dht_types.proofs.PutLaws.{exact_gfid}
 use Rattle.std.specs.Ordering.{is_lt}

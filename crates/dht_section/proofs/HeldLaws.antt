@@ -14,12 +14,15 @@ use Rattle.dht_brick.specs.Parts.{is_linkto}
 use Rattle.dht_section.proofs.LayoutLaws.{read_holder, root_holder, root_copied}
 use Rattle.dht_section.proofs.SectionLooks.{read_whole}
 use Rattle.dht_section.specs.Disk.{slot_at, holder_of}
-use Rattle.dht_section.specs.Looks.{looked_at, mark_at, leads_to, linkto_in, linkto_at, has_linkto}
-use Rattle.dht_section.specs.Scene.{Scene, Sound}
-use Rattle.dht_section.specs.Section.{IsHeld, IsLooked, IsWanted, held_looked, held_holder, looked_of}
+use Rattle.dht_section.specs.Looks.{IsNoDir, file_in, looked_at, mark_at, leads_to, linkto_in, linkto_at, has_linkto}
+use Rattle.dht_section.specs.Scene.{Scene, Sound, NameStands}
+use Rattle.dht_section.specs.Section.{IsHeld, IsLooked, Shown, ShownOf, StandsSeen, found_shape, IsWanted, held_looked, held_holder, looked_of}
 use Rattle.dht_section.specs.SectionLaws.{bricks_are}
 use Rattle.dht_section.specs.Want.{Scoped, name_at, place_of, is_name}
 use Rattle.dht_section.specs.declared.looks.Looked.{Looked}
+use Rattle.dht_section.specs.declared.looks.Sight.{Sight}
+use Rattle.dht_section.specs.declared.looks.What.{What}
+use Rattle.dht_section.specs.declared.looks.What.TheVariants.{Absent, Dir as Directory, File as AFile}
 use Rattle.dht_section.specs.declared.section.Held.{Held}
 
 -- a test that passes somewhere has a first place
@@ -36,13 +39,13 @@ has_position : {A : Type 0} (p : A → Bool) (xs : List A) → position_or_len p
 has_position p xs l = ap (λ (b : Bool). cond b (Some (position_or_len p xs)) None) (let e : nat_lt (position_or_len p xs) (length xs) ≡ true = grind (arith, nat_tests, l) in e)
 
 -- the place of a name that was wanted
-record Placed (w : Scoped) (e : Entry) : Type 0 where
-  place : ℕ
-  is : place_of w e ≡ Some place
-  within : place < length w.names
-  name : name_at w place ≡ e
+pub record Placed (w : Scoped) (e : Entry) : Type 0 where
+  pub place : ℕ
+  pub is : place_of w e ≡ Some place
+  pub within : place < length w.names
+  pub name : name_at w place ≡ e
 
-place_is : (w : Scoped) (e : Entry) → Contains w.names e → Placed w e
+pub place_is : (w : Scoped) (e : Entry) → Contains w.names e → Placed w e
 place_is w e h =
     let l = first_passes (is_name e) w.names h.0 e h.1 (ap (is_name e) h.2 ∙ (exact_entry e e).1 refl) in
     let n = position_or_len (is_name e) w.names in
@@ -98,5 +101,20 @@ linkto_known bricks (Some (Linkto value)) = known (linked_brick (replay_names br
     known None = refl
     known (Some b) = refl
 
-pub linkto_is : (h : Held) (e : Entry) (b : ℕ) (s : Scene) → IsHeld h s → IsWanted h e → b < h.scope.bricks → has_linkto (linkto_at (held_looked h e).sight.linktos b) ≡ is_linkto (slot_at s.disk b e).main
-linkto_is h e b s k c l = ap has_linkto ((found_is h e s k c).shown.bricks b l).linkto ∙ linkto_known (length s.history.weights) (slot_at s.disk b e).main
+-- of a name that is no directory's all was shown
+pub shown_of_file : (e : Entry) (what : What) (x : Sight) (limit : ℕ) (s : Scene) → IsNoDir what → ShownOf what e x limit s → Shown e x limit s
+shown_of_file e Absent x limit s k h = h
+shown_of_file e (Directory g) x limit s k h = absurd k
+shown_of_file e (AFile f b links) x limit s k h = h
+
+-- and it stands as the file that was found, or nowhere
+pub stands_found : (e : Entry) (what : What) (s : Scene) → IsNoDir what → StandsSeen e what s → NameStands s e (found_shape (file_in what))
+stands_found e Absent s k h = h
+stands_found e (Directory g) s k h = absurd k
+stands_found e (AFile f b links) s k h = h
+
+pub linkto_is : (h : Held) (e : Entry) (b : ℕ) (s : Scene) → IsHeld h s → IsWanted h e → IsNoDir (held_looked h e).sight.what → b < h.scope.bricks → has_linkto (linkto_at (held_looked h e).sight.linktos b) ≡ is_linkto (slot_at s.disk b e).main
+linkto_is h e b s k c plain l =
+    let x = held_looked h e in
+    let shown = shown_of_file e x.sight.what x.sight h.scope.bricks s plain (found_is h e s k c).shown in
+    ap has_linkto (shown.bricks b l).linkto ∙ linkto_known (length s.history.weights) (slot_at s.disk b e).main

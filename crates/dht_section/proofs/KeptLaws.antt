@@ -2,13 +2,13 @@
 use Rattle.std.proofs.Common.{◌≡◌, ◌<◌, ℕ, Bool, true, false, sym, ◌∙◌, ap, arith, List}
 use Rattle.std.specs.Prelude.{Some, is_some, nat_lt, if◌then◌else◌}
 use Rattle.std.proofs.lemmas.Bool.Decides.{nat_tests}
-use Rattle.dht_section.proofs.HeldLaws.{linkto_is}
+use Rattle.dht_section.proofs.HeldLaws.{linkto_is, stands_found}
 use Rattle.dht_section.proofs.LayoutLaws.{holder_housed, read_holder}
 use Rattle.dht_section.proofs.LocationLaws.{home_there, looked_is, name_held, wanted}
 use Rattle.dht_section.proofs.SectionLooks.{read_whole}
 use Rattle.dht_section.specs.Disk.{dir_at, holder_of}
 use Rattle.dht_section.specs.Location.{IsHeldAt, entry_at}
-use Rattle.dht_section.specs.Looks.{file_in, has_linkto, linkto_at}
+use Rattle.dht_section.specs.Looks.{IsNoDir, file_in, has_linkto, linkto_at}
 use Rattle.dht_section.specs.Scene.{Scene, Sound}
 use Rattle.dht_section.specs.Section.{held_holder, held_looked}
 use Rattle.dht_section.specs.SectionLaws.{bricks_are}
@@ -27,19 +27,19 @@ pub count_is : (l : Location) (h : Held) (s : Scene) → Sound s → IsHeldAt l 
 count_is l h s sound k = bricks_are h.scope s sound k.held.fresh.scope ∙ location_bricks l h s k
 
 -- a brick has a linkto where one was seen
-pub linkto_seen : (l : Location) (h : Held) (b : ℕ) (s : Scene) → IsHeldAt l h s → b < l.bricks → linkto_there s.disk b (entry_at l) ≡ has_linkto (linkto_at (seen_linktos l h) b)
-linkto_seen l h b s k w = (let e = location_bricks l h s k in sym (linkto_is h (entry_at l) b s k.held (wanted l h k.scope) (omega arith)))
+pub linkto_seen : (l : Location) (h : Held) (b : ℕ) (s : Scene) → IsHeldAt l h s → IsNoDir (held_looked h (entry_at l)).sight.what → b < l.bricks → linkto_there s.disk b (entry_at l) ≡ has_linkto (linkto_at (seen_linktos l h) b)
+linkto_seen l h b s k plain w = (let e = location_bricks l h s k in sym (linkto_is h (entry_at l) b s k.held (wanted l h k.scope) plain (omega arith)))
 
 -- from the first brick on all are left
 pub left_all : (linktos : List Linkto) (b : ℕ) → has_linkto (linkto_at linktos b) ≡ is_left linktos 0 b
 left_all linktos b = (let e : false ≡ nat_lt b 0 = grind (arith, nat_tests) in ap (λ (v : Bool). if v then false else has_linkto (linkto_at linktos b)) e)
 
-pub held_left : (l : Location) (h : Held) (s : Scene) → Sound s → IsHeldAt l h s → IsLeft l (file_in (held_looked h (entry_at l)).sight.what) (seen_linktos l h) 0 s
-held_left l h s sound k = record {
+pub held_left : (l : Location) (h : Held) (s : Scene) → Sound s → IsHeldAt l h s → IsNoDir (held_looked h (entry_at l)).sight.what → IsLeft l (file_in (held_looked h (entry_at l)).sight.what) (seen_linktos l h) 0 s
+held_left l h s sound k plain = record {
   bricks = count_is l h s sound k;
   holds = name_held l h s k;
-  stands = (looked_is l h s k).stands;
-  left = λ b w. linkto_seen l h b s k w ∙ left_all (seen_linktos l h) b;
+  stands = stands_found (entry_at l) (held_looked h (entry_at l)).sight.what s plain (looked_is l h s k).stands;
+  left = λ b w. linkto_seen l h b s k plain w ∙ left_all (seen_linktos l h) b;
 }
 
 -- ---- what it knows beside them

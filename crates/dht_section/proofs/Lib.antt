@@ -14,11 +14,14 @@ pub mod SectionLooks
 pub mod TaughtLaws
 pub mod SectionSteps
 pub mod ClosingSteps
+pub mod ReleaseSteps
 pub mod HeldLaws
 pub mod SameLists
 pub mod FirstSection
+pub mod PairLaws
 pub mod PartSteps
 pub mod LocationLaws
+pub mod WholeSteps
 pub mod SectionParts
 pub mod ReapSteps
 pub mod FileLaws

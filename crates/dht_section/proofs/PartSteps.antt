@@ -2,10 +2,9 @@
 use Rattle.std.proofs.Common.{◌≡◌, ◌<◌, ◌+◌, ℕ, List, [], sym, subst, arith}
 use Rattle.dht_brick.specs.declared.replies.Reply.{Reply}
 use Rattle.dht_section.proofs.ClaimLaws.{claims_more}
-use Rattle.dht_section.specs.Claims.{Lock, Claim, Listed, claims_locks}
-use Rattle.dht_section.specs.Scene.{Scene, MayAnswer}
-use Rattle.dht_section.specs.Stages.{Stage, Ending, Served, GoesOn, EndsIn, MayClaimNext, answered}
-use Rattle.dht_section.specs.declared.machine.Finish.{Finish}
+use Rattle.dht_section.specs.Claims.{Lock, Claim, Listed, claims_locks, no_claim}
+use Rattle.dht_section.specs.Scene.{Scene}
+use Rattle.dht_section.specs.Stages.{Stage, Ending, Served, GoesOn, EndsIn, MayClaimNext}
 use Rattle.dht_types.specs.declared.locks.Key.{Key}
 use Rattle.dht_section.specs.Parts.{as_part}
 
@@ -46,8 +45,11 @@ free_goes_on x y next r at s t e claims knows nearer h = record {
   nearer = λ u. (λ w. nearer, omega arith);
 }
 
-pub free_ends : (x : Stage) (f : Finish) (r : Reply) (at : ℕ) (s t : Scene) → x.claims.locks ≡ [] → MayAnswer f t → Served x r at s t → EndsIn x (answered f) t
-free_ends x f r at s t e earned h = record { claims = claims_more x r at s t [] h (nothing_listed x.claims.locks [] e); earned = earned }
+pub free_ends : (x : Stage) (end : Ending) (r : Reply) (at : ℕ) (s t : Scene) → end.claims ≡ no_claim → x.claims.locks ≡ [] → end.earned t → Served x r at s t → EndsIn x end t
+free_ends x end r at s t claims e earned h = record {
+  claims = subst (λ (k : Claim). MayClaimNext t x.claims k) (sym claims) (claims_more x r at s t [] h (nothing_listed x.claims.locks [] e));
+  earned = earned;
+}
 
 -- ---- what is known of a stage is known of one that is the same
 

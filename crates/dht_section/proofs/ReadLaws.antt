@@ -22,7 +22,7 @@ use Rattle.dht_section.proofs.ShownLaws.{asks_look, look_reply, range_there, car
 use Rattle.dht_section.specs.Disk.{dir_at, range_of, range_at}
 use Rattle.dht_section.specs.Looks.{is_nodir, lengthened, mark_at, sight_with}
 use Rattle.dht_section.specs.Moves.{Guarantee}
-use Rattle.dht_section.specs.Rely.{bounds, AllPlanned}
+use Rattle.dht_section.specs.Planned.{bounds, AllPlanned}
 use Rattle.dht_section.specs.Replies.{fault_of, range_shown}
 use Rattle.dht_section.specs.Scene.{Scene, Sound}
 use Rattle.dht_section.specs.Section.{ReadAt, Reads, shows_gone}
@@ -105,10 +105,10 @@ longer ranges range h = by (nat_lt (length ranges) 32) refl
 pub longer_length : (ranges : List (Option Range)) (range : Option Range) → length ranges < 32 → length (lengthened ranges range) ≡ length ranges + 1
 longer_length ranges range h = ap length (longer ranges range h) ∙ length-append ranges (range ∷ [])
 
-longer_there : (ranges : List (Option Range)) (range : Option Range) → length ranges < 32 → slice_index_or (lengthened ranges range) (length ranges) None ≡ range
+pub longer_there : (ranges : List (Option Range)) (range : Option Range) → length ranges < 32 → slice_index_or (lengthened ranges range) (length ranges) None ≡ range
 longer_there ranges range h = ap (λ x. slice_index_or x (length ranges) None) (longer ranges range h) ∙ get_or-append_seam ranges range [] None
 
-longer_below : (ranges : List (Option Range)) (range : Option Range) (i : ℕ) → length ranges < 32 → i < length ranges → slice_index_or (lengthened ranges range) i None ≡ slice_index_or ranges i None
+pub longer_below : (ranges : List (Option Range)) (range : Option Range) (i : ℕ) → length ranges < 32 → i < length ranges → slice_index_or (lengthened ranges range) i None ≡ slice_index_or ranges i None
 longer_below ranges range i h l = ap (λ x. slice_index_or x i None) (longer ranges range h) ∙ get_or-append ranges (range ∷ []) None i l
 
 read_as : (g : Gfid) (a b : Bool) (x y : Option Range) (i : ℕ) (t : Scene) → a ≡ b → x ≡ y → ReadAt g a x i t → ReadAt g b y i t

@@ -31,7 +31,7 @@ use Rattle.dht_section.specs.ReapLaws.{reap_brick_is, reap_stable}
 use Rattle.dht_section.specs.Rely.{IsNameless, BySeal}
 use Rattle.dht_section.specs.Replies.{fault_of}
 use Rattle.dht_section.specs.Scene.{Scene}
-use Rattle.dht_section.specs.Stages.{Served, GoesOn, EndsIn, Moves, MatchTurn, is_wait}
+use Rattle.dht_section.specs.Stages.{Served, GoesOn, EndsIn, Moves, MatchTurn}
 use Rattle.dht_section.specs.Views.{links_to, view_of}
 use Rattle.dht_section.specs.declared.machine.Ask.{Ask}
 use Rattle.dht_section.specs.declared.machine.Turn.{Turn}
@@ -50,12 +50,12 @@ seal_keeps_store x s t r m i =
     let c : Contents = s.disk.brick (reap_brick x) in
     brick_keeps (λ (c : Contents). c.store) s t (asks_seal x) r m (within_keeps (λ (c : Contents). c.store) (with_opens c) (seal_row x.file c.opens) c (λ a. refl)) i
 
-no_step : (f : Gfid) (r : Reply) → step_of (Seal f) r ≡ None
-no_step f (Carried given) = refl
-no_step f r = refl
+no_step : (b : ℕ) (f : Gfid) (r : Reply) → step_of b (Seal f) r ≡ None
+no_step b f (Carried given) = refl
+no_step b f r = refl
 
 seal_keeps_tree : (x : Orphan) (s t : Scene) (r : Reply) → Guarantee s (asks_seal x) r t → t.history.tree ≡ s.history.tree
-seal_keeps_tree x s t r m = m.tree ∙ ap (λ (o : Option TreeStep). tree_by o s.history.tree) (no_step x.file m.real)
+seal_keeps_tree x s t r m = m.tree ∙ ap (λ (o : Option TreeStep). tree_by o s.history.tree) (no_step (reap_brick x) x.file m.real)
 
 -- a seal that was carried out seals the file
 has_inserted : (o : Opens) (f : Gfid) → is_sealed (sealed o f) f ≡ true

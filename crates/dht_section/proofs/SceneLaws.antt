@@ -4,7 +4,7 @@ use Rattle.std.specs.Prelude.{Option, Some, None, nat_eq, if◌then◌else◌}
 use Rattle.dht_types.proofs.PutLaws.{put_same, put_keeps, exact_nat}
 use Rattle.dht_types.specs.Put.{put}
 use Rattle.dht_types.specs.Gfid.{Entry, anchor}
-use Rattle.dht_types.specs.History.{is_carried}
+use Rattle.dht_types.specs.History.{IsAlone, is_carried}
 use Rattle.dht_types.specs.Tree.{Tree}
 use Rattle.dht_types.specs.declared.calls.TreeStep.{TreeStep}
 use Rattle.dht_types.specs.declared.errors.Errno.{Errno}
@@ -145,13 +145,13 @@ carried_sound Failed e = absurd (let k : false ≡ true = e in cc)
 carried_sound NoMemory e = absurd (let k : false ≡ true = e in cc)
 
 -- and the step of the tree was done that the request stands for
-pub carried_step : (q : NameRequest) (r : Reply) → is_carried (reply_kind r) ≡ true → step_of (OnNames q) r ≡ name_step q
-carried_step q (Carried given) e = refl
-carried_step q (Declined why) e = absurd (let k : false ≡ true = e in cc)
-carried_step q (Wait holder) e = absurd (let k : false ≡ true = e in cc)
-carried_step q Down e = absurd (let k : false ≡ true = e in cc)
-carried_step q Failed e = absurd (let k : false ≡ true = e in cc)
-carried_step q NoMemory e = absurd (let k : false ≡ true = e in cc)
+pub carried_step : (b : ℕ) (q : NameRequest) (r : Reply) → is_carried (reply_kind r) ≡ true → step_of b (OnNames q) r ≡ name_step b q
+carried_step b q (Carried given) e = refl
+carried_step b q (Declined why) e = absurd (let k : false ≡ true = e in cc)
+carried_step b q (Wait holder) e = absurd (let k : false ≡ true = e in cc)
+carried_step b q Down e = absurd (let k : false ≡ true = e in cc)
+carried_step b q Failed e = absurd (let k : false ≡ true = e in cc)
+carried_step b q NoMemory e = absurd (let k : false ≡ true = e in cc)
 
 -- a call whose request was not served may answer that
 true_or : (b : Bool) → (b || true) ≡ true
@@ -244,19 +244,26 @@ lock_given_back s t b key r m =
 -- ---- the call
 
 -- a request that changes no name does no step
-pub no_step : (q : Request) (r : Reply) → IsQuiet q → step_of q r ≡ None
-no_step (Lock key mode) (Carried given) h = refl
-no_step (Unlock key) (Carried given) h = refl
-no_step (OnNames (Look d n)) (Carried given) h = refl
-no_step (OnNames (Dirinfo d)) (Carried given) h = refl
-no_step q (Carried given) h = absurd h
-no_step q r h = refl
+pub no_step : (b : ℕ) (q : Request) (r : Reply) → IsQuiet q → step_of b q r ≡ None
+no_step b (Lock key mode) (Carried given) h = refl
+no_step b (Unlock key) (Carried given) h = refl
+no_step b (OnNames (Look d n)) (Carried given) h = refl
+no_step b (OnNames (Dirinfo d)) (Carried given) h = refl
+no_step b q (Carried given) h = absurd h
+no_step b q r h = refl
 
 pub deeds_quiet : (s t : Scene) (a : Ask) (r : Reply) → IsQuiet a.request → Guarantee s a r t → t.mine.deeds ≡ s.mine.deeds
-deeds_quiet s t a r q m = m.mine.deeds_are ∙ ap (λ (o : Option TreeStep). deeds_by s t.history.size o) (no_step a.request m.real q)
+deeds_quiet s t a r q m = m.mine.deeds_are ∙ ap (λ (o : Option TreeStep). deeds_by s t.history.size o) (no_step a.brick.0 a.request m.real q)
 
 pub tree_quiet : (s t : Scene) (a : Ask) (r : Reply) → IsQuiet a.request → Guarantee s a r t → t.history.tree ≡ s.history.tree
-tree_quiet s t a r q m = m.tree ∙ ap (λ (o : Option TreeStep). tree_by o s.history.tree) (no_step a.request m.real q)
+tree_quiet s t a r q m = m.tree ∙ ap (λ (o : Option TreeStep). tree_by o s.history.tree) (no_step a.brick.0 a.request m.real q)
+
+-- a call that is the only one was so before its request
+pub alone_before : (s t : Scene) (a : Ask) (r : Reply) → Guarantee s a r t → IsAlone t.history t.mine → IsAlone s.history s.mine
+alone_before s t a r m h = record {
+  first = sym m.mine.alone ∙ h.first;
+  last = ap (λ (k : CallNo). k.0) (sym m.mine.number) ∙ (h.last ∙ m.calls);
+}
 
 -- each name stands as it did
 pub stands_moved : (s t : Scene) (a : Ask) (r : Reply) (e : Entry) (h : NameShape) → IsQuiet a.request → NameStands s e h → Guarantee s a r t → NameStands t e h

@@ -28,13 +28,15 @@ use Rattle.dht_section.specs.MayAnswerLaws.{may_answer_moved}
 use Rattle.dht_section.specs.Moves.{Guarantee}
 use Rattle.dht_section.specs.Replies.{fault_of}
 use Rattle.dht_section.specs.Scene.{Scene, fault_finish}
-use Rattle.dht_section.specs.Section.{last_lock, IsFresh, MayBegin, HoldsKey, Shown, AllHeld, LockingKnows, WasGone, unheld_earned, section_stage, opened_ending}
+use Rattle.dht_section.specs.Section.{last_lock, IsFresh, MayBegin, HoldsKey, Shown, ShownOf, AllHeld, LockingKnows, WasGone, unheld_earned, section_stage, opened_ending}
 use Rattle.dht_section.specs.SectionLaws.{bricks_are, lock_brick_is, claimed_more, section_stable}
 use Rattle.dht_section.specs.Stages.{Stage, IsStable, Served, GoesOn, EndsIn, MayClaimNext, is_wait}
 use Rattle.dht_section.specs.Want.{Wanted, Scoped, IsScope, IsWhole, key_at, name_at, mode_of, dir_of, lock_brick, claimed}
 use Rattle.dht_section.specs.declared.looks.Linkto.{Linkto}
 use Rattle.dht_section.specs.declared.looks.Linkto.TheVariants.{No}
 use Rattle.dht_section.specs.declared.looks.Looked.{Looked}
+use Rattle.dht_section.specs.declared.looks.What.{What}
+use Rattle.dht_section.specs.declared.looks.What.TheVariants.{Absent, Dir, File}
 use Rattle.dht_section.specs.declared.machine.Ask.{Ask}
 use Rattle.dht_section.specs.declared.section.Opened.TheVariants.{Held as Holding}
 use Rattle.dht_section.specs.declared.section.Section.TheVariants.{Locking, Looking, Unlocking}
@@ -86,12 +88,18 @@ unheld_moved w (Gone g at) s t a r q h m = (h.0, gone_moved g at s t a r q h.1 m
 unheld_moved w (Stopped e) s t a r q h m = may_answer_moved (fault_finish e) s t a r (deeds_quiet s t a r q m) m h
 
 -- no brick was looked at
-pub nothing_shown : (e : Entry) (s : Scene) → Shown e no_sight 0 s
+nothing_shown : (e : Entry) (s : Scene) → Shown e no_sight 0 s
 nothing_shown e s = record {
   room = (length-replicate {A = Linkto} 32 No, length-replicate {A = Bool} 32 false);
   bricks = λ b l. absurd (omega arith);
   file = tt;
 }
+
+-- of nothing, or of a directory or a file, whichever stands there
+pub nothing_of : (full : What) (e : Entry) (s : Scene) → ShownOf full e no_sight 0 s
+nothing_of Absent e s = nothing_shown e s
+nothing_of (Dir g) e s = (nothing_shown e s).room
+nothing_of (File f b links) e s = nothing_shown e s
 
 -- ---- the locks
 
@@ -167,11 +175,10 @@ first_look w i looks r at s t k e z v =
         within = omega arith;
         room = h.room;
         holds = subst (λ (n : ℕ). AllHeld w n t) last (held_more w i looks r at s t k v);
-        file = tt;
         saw = record { full = full.0; stands = full.1; shows = none_below full.0 };
         read = λ b q. absurd (omega arith);
         whole = refl;
-        shown = nothing_shown (name_at w 0) t;
+        shown = nothing_of full.0 (name_at w 0) t;
         looked = λ j l. absurd (omega arith);
       };
       nearer = λ u. (λ q. omega arith, omega arith);

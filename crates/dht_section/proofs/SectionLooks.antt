@@ -22,19 +22,19 @@ use Rattle.dht_section.proofs.EarlyLaws.{nat_cases}
 use Rattle.dht_section.proofs.PlaceLaws.{set_length, set_there, set_other, below_or}
 use Rattle.dht_section.proofs.ReadLaws.{longer_length, look_read, reads_more, reads_moved}
 use Rattle.dht_section.proofs.SceneLaws.{IsQuiet, row_reply, store_moved, slot_moved, lock_moved, deeds_quiet, tree_quiet, stands_moved, fault_earned}
-use Rattle.dht_section.proofs.ShownLaws.{found_then, look_reply, full_of, none_below, shows_more, look_main, look_hop, look_answered, name_stands_at, saw_all}
-use Rattle.dht_section.proofs.SectionLocks.{fresh_moved, nothing_shown}
+use Rattle.dht_section.proofs.ShownLaws.{look_reply, full_of, none_below, look_main, look_hop, look_answered, node_there, saw_all, saw_more}
+use Rattle.dht_section.proofs.SectionLocks.{fresh_moved, nothing_of}
 use Rattle.dht_section.proofs.UnlockingSteps.{scope_moved}
-use Rattle.dht_section.specs.Disk.{file_of_main, slot_at, file_at, dir_at}
-use Rattle.dht_section.specs.Early.{IsPlain}
-use Rattle.dht_section.specs.Looks.{main_shown, links_shown, hop_shown, what_by, hop_by, sight_with, no_sight, looked_at, mark_at, linkto_in, with_looked, is_nodir, file_in, IsNoDir, looks_left}
+use Rattle.dht_section.specs.Disk.{slot_at, file_at, dir_at}
+use Rattle.dht_section.specs.Looks.{main_shown, links_shown, hop_shown, what_by, hop_by, sight_with, no_sight, looked_at, mark_at, linkto_in, with_looked, is_nodir, looks_left}
 use Rattle.dht_section.specs.Moves.{Guarantee}
 use Rattle.dht_section.specs.Replies.{fault_of, is_shown, range_shown}
 use Rattle.dht_section.specs.Scene.{Scene, Sound}
-use Rattle.dht_section.specs.Section.{Saw, ReadAt, Reads, found_shape, look_ask, last_lock, HasScope, IsFresh, AllHeld, SawAt, BrickShown, FileShown, WhatShown, Shown, IsLooked, AllLooked, WasGone, shows_gone, section_stage, opened_ending}
+use Rattle.dht_section.specs.Section.{Saw, ShownBelow, ShownOf, StandsSeen, HasRoom, ReadAt, Reads, look_ask, last_lock, HasScope, IsFresh, AllHeld, SawAt, BrickShown, FileShown, WhatShown, Shown, IsLooked, AllLooked, WasGone, shows_gone, section_stage, opened_ending}
 use Rattle.dht_section.specs.SectionLaws.{bricks_are}
+use Rattle.dht_section.specs.Shapes.{Bare, Folder, Plain}
 use Rattle.dht_section.specs.Stages.{Served, GoesOn, EndsIn}
-use Rattle.dht_section.specs.Views.{visible, links_to}
+use Rattle.dht_section.specs.Views.{links_to}
 use Rattle.dht_section.specs.Want.{Scoped, key_at, name_at, dir_of}
 use Rattle.dht_section.specs.declared.looks.Linkto.TheVariants.{No}
 use Rattle.dht_section.specs.declared.looks.Looked.{Looked}
@@ -60,34 +60,6 @@ left_now bricks n count l =
 
 -- ---- what one look shows
 
--- a main part that is no directory
-IsNoDirMain : Option Main → Type 0
-IsNoDirMain (Some (ADir g)) = ⊥
-IsNoDirMain m = Unit {0}
-
--- a core that is none is of a main part that is none
-no_dir_seen : (m : Option Main) → visible m ≡ None → IsNoDirMain m
-unfolding IsNoDirMain
-no_dir_seen None e = tt
-no_dir_seen (Some (ADir g)) e = let z : Some (ADir g) ≡ None = e in cc
-no_dir_seen (Some (AFile f over)) e = tt
-no_dir_seen (Some (Linkto value)) e = tt
-
-plain_main : (p : Slot) → IsPlain p → IsNoDirMain p.main
-unfolding IsNoDirMain
-plain_main p h = elim h [
-  | inl q ↦ no_dir_seen p.main (ap (λ (x : Slot). x.main) q)
-  | inr q ↦ subst (λ (x : Slot). IsNoDirMain x.main) (sym q.1) tt
-]
-
--- what a name is after a look at one more brick, where no brick shows a directory
-file_by : (x : What) (b : BrickNo) (m : Option Main) (links : ℕ) → IsNoDirMain m → IsNoDir x → IsNoDir (what_by x b m links) × (file_in (what_by x b m links) ≡ found_then (file_in x) b (file_of_main m))
-unfolding IsNoDirMain
-file_by x b None links k h = (h, refl)
-file_by x b (Some (ADir g)) links k h = absurd k
-file_by x b (Some (AFile f over)) links k h = (tt, refl)
-file_by x b (Some (Linkto value)) links k h = (h, refl)
-
 is_link : (f : Gfid) (over : Option BrickNo) (p : Slot) → p.main ≡ Some (AFile f over) → links_to f p ≡ true
 is_link f over p e = ap (λ (m : Option Main). is_file f m || is_standlink f p.standby) e ∙ ap (λ (b : Bool). b || is_standlink f p.standby) ((exact_gfid f f).1 refl)
 
@@ -103,8 +75,8 @@ what_more e x hop b (Some (Linkto value)) links shown t h new = h
 held_moved : (w : Scoped) (i n : ℕ) (b : BrickNo) (s t : Scene) (r : Reply) → AllHeld w i s → Guarantee s (look_ask w n b) r t → AllHeld w i t
 held_moved w i n b s t r h m j l = lock_moved s t _ r m (dir_of (key_at w j)) (key_at w j) tt ∙ h j l
 
-saw_at_moved : (e : Entry) (x : Looked) (s t : Scene) (a : Ask) (r : Reply) → SawAt e x s → Guarantee s a r t → SawAt e x t
-saw_at_moved e x s t a r h m =
+saw_at_moved : (e : Entry) (x : Looked) (s t : Scene) (a : Ask) (r : Reply) → IsQuiet a.request → SawAt e x s → Guarantee s a r t → SawAt e x t
+saw_at_moved e x s t a r quiet h m =
     let later = m.later in
     let before = h.before in
     let after = h.after in
@@ -114,6 +86,9 @@ saw_at_moved e x s t a r h m =
       before = omega arith;
       directory = ap (λ (p : Tree). p.dirs e.0) (m.past x.at h.before) ∙ h.directory;
       node = ap (λ (p : Tree). p.names e) (m.past x.at h.before) ∙ h.node;
+      descent = h.descent;
+      was = ap (λ (p : Tree). p.descents e.0) (m.past x.at h.before) ∙ h.was;
+      is = ap (λ (p : Tree). p.descents e.0) (tree_quiet s t a r quiet m) ∙ h.is;
     }
 
 file_moved : (w : Scoped) (n : ℕ) (b : BrickNo) (s t : Scene) (r : Reply) → Guarantee s (look_ask w n b) r t → (f : Gfid) (i : ℕ) → file_at t.disk i f ≡ file_at s.disk i f
@@ -153,9 +128,15 @@ shown_moved w n b e x limit s t r h m = record {
 }
 
 -- with one brick more
+room_more : (w : Scoped) (b : BrickNo) (x : Sight) (r : Reply) → b.0 < 32 → HasRoom x → HasRoom (sight_with w.bricks x b r)
+room_more w b x r few h = (
+  set_length x.linktos b.0 _ (let q = h.0 in omega arith) ∙ h.0,
+  set_length x.copies b.0 _ (let q = h.1 in omega arith) ∙ h.1,
+)
+
 shown_more : (w : Scoped) (n : ℕ) (b : BrickNo) (x : Sight) (s t : Scene) (r : Reply) → Sound s → HasScope w s → b.0 < s.disk.count → b.0 < 32 → fault_of r ≡ None → Shown (name_at w n) x b.0 s → Guarantee s (look_ask w n b) r t → Shown (name_at w n) (sight_with w.bricks x b r) (b.0 + 1) t
 shown_more w n b x s t r sound scope there few z h m = record {
-  room = (set_length x.linktos b.0 _ links_room ∙ h.room.0, set_length x.copies b.0 _ copies_room ∙ h.room.1);
+  room = room_more w b x r few h.room;
   bricks = λ i l. elim (nat_cases i b.0) [
     | inl q ↦ subst (λ (j : ℕ). BrickShown e (sight_with w.bricks x b r) j t) (sym q) here
     | inr ne ↦ elsewhere i ne (brick_moved w n b e x i s t r (h.bricks i (below_or i b.0 (omega arith) ne)) m)
@@ -168,9 +149,6 @@ shown_more w n b x s t r sound scope there few z h m = record {
 
     links_room : b.0 < length x.linktos
     links_room = let q = h.room.0 in omega arith
-
-    copies_room : b.0 < length x.copies
-    copies_room = let q = h.room.1 in omega arith
 
     main : main_shown r ≡ (slot_at s.disk b.0 (name_at w n)).main
     main = look_main (name_at w n) b s t r sound there z m
@@ -196,14 +174,35 @@ shown_more w n b x s t r sound scope there few z h m = record {
           moved = look_hop (name_at w n) b f over s t r sound there z at_name m;
         }) m
 
+-- of a name that is a directory there is room for more alone
+pub room_of : (e : Entry) (full : What) (x : Sight) (limit : ℕ) (s : Scene) → ShownOf full e x limit s → HasRoom x
+room_of e Absent x limit s h = h.room
+room_of e (Dir g) x limit s h = h
+room_of e (File f b links) x limit s h = h.room
+
+shown_of_moved : (w : Scoped) (n : ℕ) (b : BrickNo) (e : Entry) (full : What) (x : Sight) (limit : ℕ) (s t : Scene) (r : Reply) → ShownOf full e x limit s → Guarantee s (look_ask w n b) r t → ShownOf full e x limit t
+shown_of_moved w n b e Absent x limit s t r h m = shown_moved w n b e x limit s t r h m
+shown_of_moved w n b e (Dir g) x limit s t r h m = h
+shown_of_moved w n b e (File f c links) x limit s t r h m = shown_moved w n b e x limit s t r h m
+
+shown_of_more : (w : Scoped) (n : ℕ) (b : BrickNo) (full : What) (x : Sight) (s t : Scene) (r : Reply) → Sound s → HasScope w s → b.0 < s.disk.count → b.0 < 32 → fault_of r ≡ None → ShownOf full (name_at w n) x b.0 s → Guarantee s (look_ask w n b) r t → ShownOf full (name_at w n) (sight_with w.bricks x b r) (b.0 + 1) t
+shown_of_more w n b Absent x s t r sound scope there few z h m = shown_more w n b x s t r sound scope there few z h m
+shown_of_more w n b (Dir g) x s t r sound scope there few z h m = room_more w b x r few h
+shown_of_more w n b (File f c links) x s t r sound scope there few z h m = shown_more w n b x s t r sound scope there few z h m
+
+-- a name stands as it did
+seen_moved : (w : Scoped) (n : ℕ) (b : BrickNo) (e : Entry) (full : What) (s t : Scene) (r : Reply) → StandsSeen e full s → Guarantee s (look_ask w n b) r t → StandsSeen e full t
+seen_moved w n b e Absent s t r h m = stands_moved s t _ r e Bare tt h m
+seen_moved w n b e (Dir g) s t r h m = (h.0, stands_moved s t _ r e (Folder g h.0) tt h.1 m)
+seen_moved w n b e (File f c links) s t r h m = stands_moved s t _ r e (Plain c.0 f) tt h m
+
 looked_moved : (w : Scoped) (n : ℕ) (b : BrickNo) (e : Entry) (x : Looked) (s t : Scene) (r : Reply) → IsLooked w.bricks e x s → Guarantee s (look_ask w n b) r t → IsLooked w.bricks e x t
 looked_moved w n b e x s t r h m = record {
-  file = h.file;
-  stands = stands_moved s t _ r e (found_shape (file_in x.sight.what)) tt h.stands m;
+  stands = seen_moved w n b e x.sight.what s t r h.stands m;
   read = reads_moved s t _ r tt e.0 x.sight h.read m;
   whole = h.whole;
-  shown = shown_moved w n b e x.sight w.bricks s t r h.shown m;
-  saw = saw_at_moved e x s t _ r h.saw m;
+  shown = shown_of_moved w n b e x.sight.what x.sight w.bricks s t r h.shown m;
+  saw = saw_at_moved e x s t _ r tt h.saw m;
 }
 
 -- ---- what is known after a look that was answered
@@ -212,11 +211,10 @@ pub record AfterLook (w : Scoped) (looks : List Looked) (n : ℕ) (b : BrickNo) 
   pub fresh : IsFresh w t
   pub there : b.0 < t.disk.count
   pub holds : AllHeld w (length w.keys) t
-  pub file : IsNoDir x.what
-  pub saw : Saw (name_at w n) (b.0 + 1) (file_in x.what) t
+  pub saw : Saw (name_at w n) (b.0 + 1) x.what t
   pub read : Reads (name_at w n).0 x t
   pub whole : length x.layout ≡ b.0 + 1
-  pub shown : Shown (name_at w n) x (b.0 + 1) t
+  pub shown : ShownOf saw.full (name_at w n) x (b.0 + 1) t
   pub looked : AllLooked w n looks t
 
 pub after_look : (w : Scoped) (looks : List Looked) (n : ℕ) (b : BrickNo) (x : Sight) (r : Reply) (at : ℕ) (s t : Scene) → fault_of r ≡ None → shows_gone (name_at w n).0 b r ≡ false → Served (section_stage (Looking w looks n b x)) r at s t → AfterLook w looks n b (sight_with w.bricks x b r) s t
@@ -231,22 +229,19 @@ after_look w looks n b x r at s t z going v =
     let count = m.disk.count in
     let there : b.0 < s.disk.count = omega arith in
     let main = look_main e b s t r v.before there z m in
-    let shown = file_by x.what b (main_shown r) (links_shown r) (subst IsNoDirMain (sym main) (plain_main (slot_at s.disk b.0 e) (v.before.early.plain e b.0 there))) h.file in
-    let shape = found_shape h.saw.full in
+    let more = saw_more s e b (main_shown r) (links_shown r) h.saw.full x.what there main h.saw.stands h.saw.shows in
+    let room = room_of e h.saw.full x b.0 s h.shown in
     record {
       fresh = fresh_moved w s t _ r tt h.fresh m;
       there = omega arith;
       holds = held_moved w (length w.keys) n b s t r h.holds m;
-      file = shown.0;
       saw = record {
-        full = h.saw.full;
-        stands = stands_moved s t _ r e shape tt h.saw.stands m;
-        shows = shown.1
-            ∙ shows_more h.saw.full (file_in x.what) b (file_of_main (main_shown r)) h.saw.shows
-            (ap file_of_main main ∙ name_stands_at s e shape b.0 there h.saw.stands);
+        full = more.next;
+        stands = seen_moved w n b e more.next s t r more.stands m;
+        shows = more.shows;
       };
-      read = reads_more w.bricks e.0 x b r t h.whole h.shown.room.1 (omega arith) (reads_moved s t _ r tt e.0 x h.read m) (look_read e b s t r v.before there z going m);
-      shown = shown_more w n b x s t r v.before h.fresh.scope there (omega arith) z h.shown m;
+      read = reads_more w.bricks e.0 x b r t h.whole room.1 (omega arith) (reads_moved s t _ r tt e.0 x h.read m) (look_read e b s t r v.before there z going m);
+      shown = more.as_was (sight_with w.bricks x b r) (b.0 + 1) t (shown_of_more w n b h.saw.full x s t r v.before h.fresh.scope there (omega arith) z h.shown m);
       whole = longer_length x.layout (range_shown r) (omega arith) ∙ ap (λ (i : ℕ). i + 1) whole;
       looked = λ j l. looked_moved w n b (name_at w j) (looked_at looks j) s t r (h.looked j l) m;
     }
@@ -268,7 +263,6 @@ next_brick w looks n b x r at s t z going e v =
         within = omega arith;
         room = h.room;
         holds = a.holds;
-        file = a.file;
         saw = a.saw;
         read = a.read;
         whole = a.whole;
@@ -294,20 +288,25 @@ seen_whole w looks n b x at s t sound line last l a =
     let bricks = bricks_are w t sound a.fresh.scope in
     let all : b.0 + 1 ≡ t.disk.count = omega arith in
     let e = name_at w n in
-    let stands = saw_all t e (file_in x.what) (subst (λ (i : ℕ). Saw e i (file_in x.what) t) all a.saw) in
+    let full = saw_all t e a.saw.full x.what a.saw.stands (subst (λ (i : ℕ). ShownBelow i a.saw.full x.what) all a.saw.shows) in
+    let stands : StandsSeen e x.what t = subst (λ (y : What). StandsSeen e y t) (sym full) a.saw.stands in
     let begun = sound.begun in
     let now : t.history.past at ≡ t.history.tree = ap t.history.past line ∙ sound.kept.point in
+    let directory = read_whole e.0 x t sound (let k = a.fresh.scope.homes n l in let whole = a.whole in omega arith) a.read in
+    let placed = sound.kept.tree.placed e.0 directory in
     record {
-      file = a.file;
       stands = stands;
       read = a.read;
       whole = a.whole ∙ last;
-      shown = subst (λ (i : ℕ). Shown e x i t) last a.shown;
+      shown = subst (λ (y : What). ShownOf y e x w.bricks t) (sym full) (subst (λ (i : ℕ). ShownOf a.saw.full e x i t) last a.shown);
       saw = record {
         after = omega arith;
         before = omega arith;
-        directory = ap (λ (p : Tree). p.dirs e.0) now ∙ read_whole e.0 x t sound (let k = a.fresh.scope.homes n l in let whole = a.whole in omega arith) a.read;
-        node = ap (λ (p : Tree). p.names e) now ∙ stands.node;
+        directory = ap (λ (p : Tree). p.dirs e.0) now ∙ directory;
+        node = ap (λ (p : Tree). p.names e) now ∙ node_there t e x.what stands;
+        descent = placed.descent;
+        was = ap (λ (p : Tree). p.descents e.0) now ∙ placed.is;
+        is = placed.is;
       };
     }
 
@@ -363,11 +362,10 @@ next_name w looks n next b x r at s t i z going e k v =
         within = omega arith;
         room = a.room;
         holds = a.holds;
-        file = tt;
         saw = record { full = full.0; stands = full.1; shows = none_below full.0 };
         read = λ c q. absurd (omega arith);
         whole = refl;
-        shown = nothing_shown (name_at w next) t;
+        shown = nothing_of full.0 (name_at w next) t;
         looked = subst (λ (m : ℕ). AllLooked w m (with_looked looks n (record { sight = sight_with w.bricks x b r; at = at })) t) (sym i) a.looked;
       };
       nearer = λ u. (λ q. omega arith, omega arith);

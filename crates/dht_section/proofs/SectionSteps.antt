@@ -71,11 +71,11 @@ section_moves (Unlocking w i x) r at s t v = either (Unlocking w i x) r t (nat_l
 
 -- ---- what it keeps, and what it notes
 
-either_turn : (P : Turn Section Opened → Type 0) (c : Bool) (x y : Turn Section Opened) → (c ≡ true → P x) → (c ≡ false → P y) → P (if c then x else y)
+pub either_turn : (P : Turn Section Opened → Type 0) (c : Bool) (x y : Turn Section Opened) → (c ≡ true → P x) → (c ≡ false → P y) → P (if c then x else y)
 either_turn P true x y h k = h refl
 either_turn P false x y h k = k refl
 
-unless_kept : (P : Turn Section Opened → Type 0) (w : Scoped) (i : ℕ) (turn : Turn Section Opened) (o r : Option Errno) → r ≡ o → ((e : Errno) → r ≡ Some e → P (Go (Unlocking w i (Stopped e)))) → (r ≡ None → P turn) → P (unless_fault o w i turn)
+pub unless_kept : (P : Turn Section Opened → Type 0) (w : Scoped) (i : ℕ) (turn : Turn Section Opened) (o r : Option Errno) → r ≡ o → ((e : Errno) → r ≡ Some e → P (Go (Unlocking w i (Stopped e)))) → (r ≡ None → P turn) → P (unless_fault o w i turn)
 unless_kept P w i turn None r e stop go = go e
 unless_kept P w i turn (Some x) r e stop go = stop x e
 

@@ -1,9 +1,8 @@
 -- What looks show of names and of layouts.
-use Rattle.std.proofs.Common.{◌≡◌, ◌≢◌, ◌⊎◌, ◌<◌, ◌+◌, ℕ, Bool, true, false, refl, sym, ◌∙◌, ap, subst, arith, inl, inr}
-use Rattle.std.specs.Prelude.{Option, Some, None, is_some, nat_lt, if◌then◌else◌}
+use Rattle.std.proofs.Common.{◌≡◌, ◌≢◌, ◌⊎◌, ◌<◌, ◌≤◌, ◌+◌, ℕ, Bool, true, false, refl, sym, ◌∙◌, ap, subst, arith, inl, inr}
+use Rattle.std.specs.Prelude.{Option, Some, None, is_some}
 use Rattle.std.specs.Option.{option_map}
-use Rattle.std.proofs.lemmas.Bool.Decides.{nat_tests}
-use Rattle.dht_types.specs.Gfid.{Entry, root}
+use Rattle.dht_types.specs.Gfid.{Entry, home, root}
 use Rattle.dht_types.specs.History.{is_carried}
 use Rattle.dht_types.specs.declared.errors.Errno.{Errno}
 use Rattle.dht_types.specs.declared.identifiers.Gfid.{Gfid}
@@ -23,43 +22,45 @@ use Rattle.dht_brick.specs.declared.requests.NameRequest.TheVariants.{Look}
 use Rattle.dht_brick.specs.declared.requests.Request.TheVariants.{OnNames}
 use Rattle.dht_brick.specs.declared.replies.Reply.{Reply}
 use Rattle.dht_brick.specs.declared.replies.Reply.TheVariants.{Ok as Carried, Refused as Declined, Wait, Down, Failed, NoMemory}
-use Rattle.dht_section.proofs.EarlyLaws.{nat_cases, here_at, here_off, plain_shape, plain_core}
+use Rattle.dht_section.proofs.EarlyLaws.{IsPlainShape, here_at, here_off, nat_cases, shape_plain}
+use Rattle.dht_section.proofs.PlaceLaws.{below_or}
 use Rattle.dht_section.proofs.SceneLaws.{row_reply}
 use Rattle.dht_section.specs.Disk.{file_of_main, file_in, slot_at, dir_at, name_at, range_of}
-use Rattle.dht_section.specs.Early.{IsPlain}
 use Rattle.dht_section.specs.Moves.{Guarantee}
-use Rattle.dht_section.specs.Looks.{main_shown, hop_shown, hop_in}
+use Rattle.dht_section.specs.Looks.{main_shown, hop_shown, hop_in, what_by}
 use Rattle.dht_section.specs.Replies.{fault_of, is_shown, file_shown, range_shown}
 use Rattle.dht_section.specs.Scene.{Scene, Sound, NameStands}
-use Rattle.dht_section.specs.Shapes.{NameShape, Plain, core_at}
+use Rattle.dht_section.specs.Shapes.{NameShape, Bare, Folder, Plain, Marked, Contested, Standing, Copied, Committed, core_at, main_at, here, when_on}
 use Rattle.dht_section.specs.Views.{visible}
-use Rattle.dht_section.specs.Section.{found_shape, shown_below, Saw}
-use Rattle.dht_section.specs.declared.looks.Place.{Place}
+use Rattle.dht_section.specs.Section.{ShownBelow, ShownOf, StandsSeen, node_seen}
+use Rattle.dht_section.specs.declared.looks.Sight.{Sight}
+use Rattle.dht_section.specs.declared.looks.What.{What}
+use Rattle.dht_section.specs.declared.looks.What.TheVariants.{Absent, Dir as Directory, File as AFile}
 use Rattle.dht_section.specs.declared.machine.Ask.{Ask}
 
 -- ---- how a name stands
 
--- in a sound scene a name stands nowhere, or as a file on one brick
-pub full_of : (s : Scene) (e : Entry) → Sound s → (full : Option Place) × NameStands s e (found_shape full)
-full_of s e sound = elim (plain_shape s.disk.count n.0 n.1.fits all_plain) [
-  | inl q ↦ (None, subst (λ (h : NameShape). NameStands s e h) q n.1)
-  | inr q ↦ (Some (record { brick = record { 0 = q.0 }; file = q.1 }), subst (λ (h : NameShape). NameStands s e h) q.2 n.1)
-]
-  where
-    n : (h : NameShape) × NameStands s e h
-    n = sound.kept.things.names e
+-- in a sound scene a name stands nowhere, as a directory, or as a file on one brick
+seen_by : (s : Scene) (e : Entry) (h : NameShape) → IsPlainShape h → NameStands s e h → (full : What) × StandsSeen e full s
+seen_by s e Bare p k = (Absent, k)
+seen_by s e (Folder g on) p k = (Directory g, (on, k))
+seen_by s e (Plain b f) p k = (AFile f (record { 0 = b }) 0, k)
+seen_by s e (Marked b f x) p k = absurd p
+seen_by s e (Contested b f x g) p k = absurd p
+seen_by s e (Standing x g) p k = absurd p
+seen_by s e (Copied b f t) p k = absurd p
+seen_by s e (Committed t f) p k = absurd p
 
-    all_plain : (b : ℕ) → b < s.disk.count → IsPlain (core_at n.0 b)
-    all_plain b l = subst IsPlain (n.1.has b l) (plain_core (slot_at s.disk b e) (sound.early.plain e b l))
+pub full_of : (s : Scene) (e : Entry) → Sound s → (full : What) × StandsSeen e full s
+full_of s e sound =
+    let n = sound.kept.things.names e in
+    seen_by s e n.0 (shape_plain s.disk e (s.history.tree.names e) n.0 n.1 (sound.early.plain e)) n.1
 
 -- no brick was looked at, and none showed it
-pub none_below : (full : Option Place) → None ≡ shown_below 0 full
-none_below None = refl
-none_below (Some p) = by (nat_lt p.brick.0 0) refl
-  where
-    by : (v : Bool) → nat_lt p.brick.0 0 ≡ v → None ≡ (if v then Some p else None)
-    by true e = absurd (grind (arith, nat_tests, e))
-    by false e = refl
+pub none_below : (full : What) → ShownBelow 0 full Absent
+none_below Absent = refl
+none_below (Directory g) = inr (refl, omega arith)
+none_below (AFile f b links) = inr (omega arith, refl)
 
 -- ---- what a look shows
 
@@ -142,46 +143,77 @@ core_file (Some (Linkto value)) = refl
 pub name_stands_at : (s : Scene) (e : Entry) (h : NameShape) (b : ℕ) → b < s.disk.count → NameStands s e h → name_at s.disk b e ≡ file_in (core_at h b)
 name_stands_at s e h b l k = sym (core_file (slot_at s.disk b e).main) ∙ ap file_in (k.has b l)
 
-plain_at : (c : ℕ) (f : Gfid) → file_in (core_at (Plain c f) c) ≡ Some f
-plain_at c f = ap file_of_main (here_at (Some (File f None)) c)
+-- the main part that a brick has at a name, as a look shows it: a linkto shows nothing of it
+visible_at : (s : Scene) (e : Entry) (h : NameShape) (b : ℕ) → b < s.disk.count → NameStands s e h → visible (slot_at s.disk b e).main ≡ main_at h b
+visible_at s e h b l k = ap (λ (p : Slot). p.main) (k.has b l)
 
-plain_off : (c b : ℕ) (f : Gfid) → b ≢ c → file_in (core_at (Plain c f) b) ≡ None
-plain_off c b f ne = ap file_of_main (here_off (Some (File f None)) c b ne)
+-- what is seen after a look at one more brick, by what of its main part is no linkto
+what_visible : (x : What) (b : BrickNo) (m : Option Main) (links : ℕ) → what_by x b m links ≡ what_by x b (visible m) links
+what_visible x b None links = refl
+what_visible x b (Some (Dir g)) links = refl
+what_visible x b (Some (File f over)) links = refl
+what_visible x b (Some (Linkto value)) links = refl
 
-shown_when : (p : Place) (limit : ℕ) → p.brick.0 < limit → Some p ≡ shown_below limit (Some p)
-shown_when p limit l = by (nat_lt p.brick.0 limit) refl
+-- what stands at the name and what was shown of it, with one brick more
+pub record SawMore (e : Entry) (limit : ℕ) (full shown : What) (s : Scene) : Type 0 where
+  pub next : What
+  pub stands : StandsSeen e next s
+  pub shows : ShownBelow limit next shown
+  pub as_was : (x : Sight) (i : ℕ) (t : Scene) → ShownOf full e x i t → ShownOf next e x i t
+
+nothing_more : (x : What) (b : BrickNo) (m : Option Main) (links : ℕ) → visible m ≡ None → what_by x b m links ≡ x
+nothing_more x b m links e = what_visible x b m links ∙ ap (λ (y : Option Main). what_by x b y links) e
+
+-- a directory's brick shows it, if it has a copy of it, as its home does
+folder_shows : (e : Entry) (g : Gfid) (on : ℕ → Bool) (x : What) (b : BrickNo) (m : Option Main) (links : ℕ) (v : Bool) → on b.0 ≡ v → on (home g) ≡ true → visible m ≡ when_on v (Dir g) → ShownBelow b.0 (Directory g) x → ShownBelow (b.0 + 1) (Directory g) (what_by x b m links)
+folder_shows e g on x b m links true q home_on k h = inl (what_visible x b m links ∙ ap (λ (y : Option Main). what_by x b y links) k)
+folder_shows e g on x b m links false q home_on k h = subst (ShownBelow (b.0 + 1) (Directory g)) (sym (nothing_more x b m links k)) (elim h [
+  | inl y ↦ inl y
+  | inr y ↦ inr (y.0, above y.1)
+])
   where
-    by : (v : Bool) → nat_lt p.brick.0 limit ≡ v → Some p ≡ (if v then Some p else None)
-    by true e = refl
-    by false e = absurd (grind (arith, nat_tests, e, l))
+    above : b.0 ≤ home g → b.0 + 1 ≤ home g
+    above l = elim (nat_cases b.0 (home g)) [
+      | inl same ↦ absurd (let z : false ≡ true = sym q ∙ (ap on same ∙ home_on) in cc)
+      | inr ne ↦ (let z = below_or b.0 (home g) (omega arith) ne in omega arith)
+    ]
 
--- what was found after a look at one more brick
-abbrev pub found_then : Option Place → BrickNo → Option Gfid → Option Place
-found_then found b None = found
-found_then found b (Some f) = Some (record { brick = b; file = f })
+file_elsewhere : (x : What) (b c : BrickNo) (f : Gfid) (m : Option Main) (seen links : ℕ) → b.0 ≢ c.0 → visible m ≡ None → ShownBelow b.0 (AFile f c seen) x → ShownBelow (b.0 + 1) (AFile f c seen) (what_by x b m links)
+file_elsewhere x b c f m seen links ne k h = subst (ShownBelow (b.0 + 1) (AFile f c seen)) (sym (nothing_more x b m links k)) (elim h [
+  | inl y ↦ inl (let l = y.0 in omega arith, y.1)
+  | inr y ↦ inr (let l = y.0 in let z = below_or b.0 c.0 (omega arith) ne in omega arith, y.1)
+])
 
-pub shows_more : (full found : Option Place) (b : BrickNo) (o : Option Gfid) → found ≡ shown_below b.0 full → o ≡ file_in (core_at (found_shape full) b.0) → found_then found b o ≡ shown_below (b.0 + 1) full
-shows_more None found b o h e = ap (found_then found b) e ∙ h
-shows_more (Some p) found b o h e = elim (nat_cases b.0 p.brick.0) [
-  | inl q ↦ (
-      ap (found_then found b) (e ∙ (ap (λ (i : ℕ). file_in (core_at (Plain p.brick.0 p.file) i)) q ∙ plain_at p.brick.0 p.file))
-      ∙ (ap (λ (i : ℕ). let x : Option Place = Some (record { brick = record { 0 = i }; file = p.file }) in x) q
-      ∙ shown_when p (b.0 + 1) (omega arith))
-      )
-  | inr ne ↦ (
-      ap (found_then found b) (e ∙ plain_off p.brick.0 b.0 p.file ne)
-      ∙ (h ∙ ap (λ (v : Bool). if v then Some p else None) (same_test p.brick.0 b.0 ne))
-      )
+pub saw_more : (s : Scene) (e : Entry) (b : BrickNo) (m : Option Main) (links : ℕ) (full x : What) → b.0 < s.disk.count → m ≡ (slot_at s.disk b.0 e).main → StandsSeen e full s → ShownBelow b.0 full x → SawMore e (b.0 + 1) full (what_by x b m links) s
+saw_more s e b m links Absent x l q k h = record {
+  next = Absent;
+  stands = k;
+  shows = nothing_more x b m links (ap visible q ∙ visible_at s e Bare b.0 l k) ∙ h;
+  as_was = λ y i t z. z;
+}
+saw_more s e b m links (Directory g) x l q k h = record {
+  next = Directory g;
+  stands = k;
+  shows = folder_shows e g k.0 x b m links (k.0 b.0) refl k.1.fits.1 (ap visible q ∙ visible_at s e (Folder g k.0) b.0 l k.1) h;
+  as_was = λ y i t z. z;
+}
+saw_more s e b m links (AFile f c seen) x l q k h = elim (nat_cases b.0 c.0) [
+  | inl same ↦ record {
+    next = AFile f b links;
+    stands = subst (λ (i : ℕ). NameStands s e (Plain i f)) (sym same) k;
+    shows = inl (omega arith, what_visible x b m links ∙ ap (λ (y : Option Main). what_by x b y links) (at_brick ∙ (ap (here (Some (File f None)) c.0) same ∙ here_at (Some (File f None)) c.0)));
+    as_was = λ y i t z. z;
+  }
+  | inr ne ↦ record {
+    next = AFile f c seen;
+    stands = k;
+    shows = file_elsewhere x b c f m seen links ne (at_brick ∙ here_off (Some (File f None)) c.0 b.0 ne) h;
+    as_was = λ y i t z. z;
+  }
 ]
   where
-    same_test : (c i : ℕ) → i ≢ c → nat_lt c i ≡ nat_lt c (i + 1)
-    same_test c i ne = by (nat_lt c i) (nat_lt c (i + 1)) refl refl
-      where
-        by : (v w : Bool) → nat_lt c i ≡ v → nat_lt c (i + 1) ≡ w → v ≡ w
-        by true true e k = refl
-        by true false e k = absurd (grind (arith, nat_tests, e, k))
-        by false true e k = absurd (ne (grind (arith, nat_tests, e, k)))
-        by false false e k = refl
+    at_brick : visible m ≡ here (Some (File f None)) c.0 b.0
+    at_brick = ap visible q ∙ visible_at s e (Plain c.0 f) b.0 l k
 
 -- a look is always answered
 answered_there : (o : Option DirRecord) (c : Contents) (e : Entry) → is_shown (look_reply o c e) ≡ true
@@ -200,10 +232,20 @@ not_shown Down e z = refl
 not_shown Failed e z = refl
 not_shown NoMemory e z = refl
 
--- what all bricks showed is how the name stands
-all_shown : (s : Scene) (e : Entry) (full : Option Place) → NameStands s e (found_shape full) → shown_below s.disk.count full ≡ full
-all_shown s e None h = refl
-all_shown s e (Some p) h = sym (shown_when p s.disk.count h.fits)
+-- what all bricks showed is what stands at the name
+pub saw_all : (s : Scene) (e : Entry) (full shown : What) → StandsSeen e full s → ShownBelow s.disk.count full shown → shown ≡ full
+saw_all s e Absent shown k h = h
+saw_all s e (Directory g) shown k h = elim h [
+  | inl q ↦ q
+  | inr q ↦ absurd (let l = k.1.fits.0 in let z = q.1 in omega arith)
+]
+saw_all s e (AFile f b links) shown k h = elim h [
+  | inl q ↦ q.1
+  | inr q ↦ absurd (let l = k.fits in let z = q.0 in omega arith)
+]
 
-pub saw_all : (s : Scene) (e : Entry) (found : Option Place) → Saw e s.disk.count found s → NameStands s e (found_shape found)
-saw_all s e found h = subst (λ (o : Option Place). NameStands s e (found_shape o)) (sym (h.shows ∙ all_shown s e h.full h.stands)) h.stands
+-- and what the tree has at it
+pub node_there : (s : Scene) (e : Entry) (what : What) → StandsSeen e what s → s.history.tree.names e ≡ node_seen what
+node_there s e Absent k = k.node
+node_there s e (Directory g) k = k.1.node
+node_there s e (AFile f b links) k = k.node

@@ -79,7 +79,7 @@ module _ (l : Location) (b : BrickNo) (s t : Scene) (r : Reply) (sound : Sound s
   drop_leaves = slot_taken s t (drop_ask l b) r given.Nothing (entry_at l) (without_main (slot_at s.disk b.0 (entry_at l))) m drop_is z
 
 -- it is none of the tree's steps
-no_step : (l : Location) (b : BrickNo) (r : Reply) → step_of (drop_ask l b).request r ≡ None
+no_step : (l : Location) (b : BrickNo) (r : Reply) → step_of b.0 (drop_ask l b).request r ≡ None
 no_step l b (reply.Ok g) = refl
 no_step l b r = refl
 

@@ -1,12 +1,14 @@
 -- A request that was not carried out, though its brick did as it should, does what others may do: so what is known stays.
-use Rattle.std.proofs.Common.{◌≡◌, ◌≤◌, ◌||◌, ℕ, Bool, true, false, refl, sym, ◌∙◌, ap, subst}
+use Rattle.std.proofs.Common.{◌≡◌, ◌≤◌, ◌||◌, ℕ, List, Bool, true, false, refl, sym, ◌∙◌, ap, subst}
 use Rattle.std.specs.Prelude.{Option, Some, None, nat_eq}
 use Rattle.dht_types.proofs.PutLaws.{put_keeps, exact_nat}
+use Rattle.dht_types.specs.Gfid.{Entry}
 use Rattle.dht_types.specs.Put.{put}
 use Rattle.dht_types.specs.History.{is_carried, is_down, is_failed}
 use Rattle.dht_types.specs.Tree.{Tree}
 use Rattle.dht_types.specs.declared.calls.TreeStep.{TreeStep}
 use Rattle.dht_types.specs.declared.errors.Errno.TheVariants.{Enotconn, Eio}
+use Rattle.dht_types.specs.declared.identifiers.CallNo.{CallNo}
 use Rattle.dht_brick.specs.Bricks.{ServesOrFails}
 use Rattle.dht_brick.specs.Contents.{Contents}
 use Rattle.dht_brick.specs.Kinds.{reply_kind}
@@ -18,9 +20,10 @@ use Rattle.dht_section.proofs.SceneLaws.{real_is, served_as_seen}
 use Rattle.dht_section.specs.Disk.{Disk, slot_at, file_at, dir_at, holders}
 use Rattle.dht_section.specs.Moves.{Guarantee, step_of, tree_by, deeds_by}
 use Rattle.dht_section.specs.Names.{StandsAs}
+use Rattle.dht_section.specs.Planned.{AllPlanned}
 use Rattle.dht_section.specs.Rely.{Rely, SameCall, IsFileUsed, IsNameless, outline}
 use Rattle.dht_section.specs.Replies.{fault_of}
-use Rattle.dht_section.specs.Scene.{Scene}
+use Rattle.dht_section.specs.Scene.{Scene, NameStands}
 use Rattle.dht_section.specs.Shapes.{NameShape, Bare, Folder, Plain, Marked, Contested, Standing, Copied, Committed, Grows}
 use Rattle.dht_section.specs.Views.{cores_of, view_of}
 use Rattle.dht_section.specs.declared.machine.Ask.{Ask}
@@ -43,8 +46,14 @@ pub record Unchanged (s t : Scene) : Type 0 where
   pub tree : t.history.tree ≡ s.history.tree
   pub run : t.history.run ≡ s.history.run
   pub weights : t.history.weights ≡ s.history.weights
+  pub calls : t.history.calls ≡ s.history.calls
   pub later : s.history.size ≤ t.history.size
   pub past : (j : ℕ) → j ≤ s.history.size → t.history.past j ≡ s.history.past j
+
+stands_same : (s t : Scene) → Unchanged s t → (e : Entry) (h : NameShape) → NameStands s e h → NameStands t e h
+stands_same s t x e h k =
+    subst (λ (d : Disk). StandsAs d.count (cores_of d e) (t.history.tree.names e) h) (sym x.disk)
+    (subst (λ (p : Tree). StandsAs s.disk.count (cores_of s.disk e) (p.names e) h) (sym x.tree) k)
 
 pub unchanged_is_rely : (s t : Scene) → Unchanged s t → Rely s t
 unchanged_is_rely s t x = record {
@@ -54,17 +63,23 @@ unchanged_is_rely s t x = record {
   run = x.run;
   weights = x.weights;
   locks = λ b key. ap (λ (d : Disk). holders d b key s.who.0) x.disk;
-  names = λ e h g k. (
-    h,
-    grows_refl h,
-    subst (λ (d : Disk). StandsAs d.count (cores_of d e) (t.history.tree.names e) h) (sym x.disk)
-        (subst (λ (p : Tree). StandsAs s.disk.count (cores_of s.disk e) (p.names e) h) (sym x.tree) k),
-  );
+  names = λ e h g k. (h, grows_refl h, stands_same s t x e h k);
   slots = λ e b g h. ap (λ (d : Disk). slot_at d b e) x.disk;
   outlines = λ e b f g l h. ap (λ (d : Disk). outline (file_at d b f)) x.disk;
   dirs = λ g b r h e. (r, ap (λ (d : Disk). dir_at d b g) x.disk ∙ e, record { place = refl; depth = refl; hashes = refl });
   added = λ g b r h e k. absurd (let z : None ≡ Some r = sym e ∙ (sym (ap (λ (d : Disk). dir_at d b g) x.disk) ∙ k) in cc);
   known = λ g h e. ap (λ (p : Tree). p.dirs g) x.tree ∙ e;
+  both = λ e g on h k n. stands_same s t x e (Folder g on) n;
+  planned = λ g h. subst (λ (d : Disk). AllPlanned d t.history.weights g) (sym x.disk) (subst (λ (ws : List ℕ). AllPlanned s.disk ws g) (sym x.weights) h);
+  made = λ g y h. ap (λ (p : Tree). p.descents g) x.tree ∙ h;
+  still = λ h. record {
+    before = record {
+      first = sym x.mine.alone ∙ h.first;
+      last = ap (λ (k : CallNo). k.0) (sym x.mine.number) ∙ (h.last ∙ x.calls);
+    };
+    tree = x.tree;
+    stores = λ b. ap (λ (d : Disk). (d.brick b).store) x.disk;
+  };
   used = λ f h. subst (λ (d : Disk). IsFileUsed d t.history.tree f) (sym x.disk) (subst (λ (p : Tree). IsFileUsed s.disk p f) (sym x.tree) h);
   sealed = λ f h. ap (λ (d : Disk). (view_of d f).sealed) x.disk ∙ h;
   nameless = λ f h. subst (λ (d : Disk). IsNameless d t.history.tree f) (sym x.disk) (subst (λ (p : Tree). IsNameless s.disk p f) (sym x.tree) h);
@@ -85,13 +100,13 @@ left_alone o old Down new z k h = h
 left_alone o old Failed new z k h = h
 left_alone o old NoMemory new z k h = h
 
-no_step_done : (q : Request) (r : Reply) → is_carried (reply_kind r) ≡ false → step_of q r ≡ None
-no_step_done q (Carried given) k = absurd (let e : true ≡ false = k in cc)
-no_step_done q (Declined why) k = refl
-no_step_done q (Wait holder) k = refl
-no_step_done q Down k = refl
-no_step_done q Failed k = refl
-no_step_done q NoMemory k = refl
+no_step_done : (b : ℕ) (q : Request) (r : Reply) → is_carried (reply_kind r) ≡ false → step_of b q r ≡ None
+no_step_done b q (Carried given) k = absurd (let e : true ≡ false = k in cc)
+no_step_done b q (Declined why) k = refl
+no_step_done b q (Wait holder) k = refl
+no_step_done b q Down k = refl
+no_step_done b q Failed k = refl
+no_step_done b q NoMemory k = refl
 
 not_down : (r : Reply) → fault_of r ≡ None → is_down (reply_kind r) ≡ false
 not_down (Carried given) z = refl
@@ -113,11 +128,9 @@ or_nothing : (a b : Bool) → b ≡ false → (a || b) ≡ a
 or_nothing true b e = refl
 or_nothing false b e = e
 
-pub unserved : (s t : Scene) (a : Ask) (r : Reply) → fault_of r ≡ None → is_carried (reply_kind r) ≡ false → Guarantee s a r t → Unchanged s t
-unserved s t a r z k m =
-    let real = real_is s t a r m z in
-    let same = left_alone _ (s.disk.brick a.brick.0) r m.new z k (served_as_seen s t a r m z) in
-    let none : step_of a.request m.real ≡ None = ap (step_of a.request) real ∙ no_step_done a.request r k in
+-- so is what a request leaves that changes nothing
+pub nothing_done : (s t : Scene) (a : Ask) (r : Reply) → fault_of r ≡ None → (m : Guarantee s a r t) → m.new ≡ s.disk.brick a.brick.0 → step_of a.brick.0 a.request m.real ≡ None → Unchanged s t
+nothing_done s t a r z m same none =
     let bricks : t.disk.brick ≡ s.disk.brick = m.disk.brick ∙ put_back s.disk.brick a.brick.0 m.new same in
     record {
       who = m.who;
@@ -134,9 +147,15 @@ unserved s t a r z k m =
       tree = m.tree ∙ ap (λ (o : Option TreeStep). tree_by o s.history.tree) none;
       run = m.run;
       weights = m.weights;
+      calls = m.calls;
       later = m.later;
       past = m.past;
     }
+
+pub unserved : (s t : Scene) (a : Ask) (r : Reply) → fault_of r ≡ None → is_carried (reply_kind r) ≡ false → Guarantee s a r t → Unchanged s t
+unserved s t a r z k m = nothing_done s t a r z m
+    (left_alone _ (s.disk.brick a.brick.0) r m.new z k (served_as_seen s t a r m z))
+    (ap (step_of a.brick.0 a.request) (real_is s t a r m z) ∙ no_step_done a.brick.0 a.request r k)
 
 pub unserved_is_rely : (s t : Scene) (a : Ask) (r : Reply) → fault_of r ≡ None → is_carried (reply_kind r) ≡ false → Guarantee s a r t → Rely s t
 unserved_is_rely s t a r z k m = unchanged_is_rely s t (unserved s t a r z k m)

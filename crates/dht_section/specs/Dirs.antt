@@ -1,6 +1,7 @@
 -- The invariant of one directory.
 use Rattle.std.specs.Prelude.{ℕ, ◌+◌, ◌<◌, ◌≡◌, Bool, true, Option, Some, None, is_some}
 use Rattle.dht_types.specs.Gfid.{Entry, root, home}
+use Rattle.dht_types.specs.Tree.{Descent, depth_in}
 use Rattle.dht_types.specs.declared.identifiers.Gfid.{Gfid}
 use Rattle.dht_types.specs.declared.stored.DirRecord.{DirRecord}
 use Rattle.dht_brick.specs.Contents.{entry_at}
@@ -32,7 +33,8 @@ pub record CopyAt (v : DirView) (b : ℕ) (e : Entry) : Type 0 where
   pub place : copy.place ≡ Some key
   pub name : entry_at key ≡ e
 
-pub record DirInvariant (count : ℕ) (g : Gfid) (v : DirView) (tree : Bool) : Type 0 where
+-- the tree has the directory, or not, and this is its descent, if it ever was
+pub record DirInvariant (count : ℕ) (g : Gfid) (v : DirView) (tree : Bool) (descent : Option Descent) : Type 0 where
   -- it is a directory of the tree exactly where its home has its copy, and a copy is beside one there
   pub homed : tree ≡ is_some (v.copies (home g))
   pub led : (b : ℕ) → b < count → is_some (v.copies b) ≡ true → (home g < count) × (tree ≡ true)
@@ -41,5 +43,8 @@ pub record DirInvariant (count : ℕ) (g : Gfid) (v : DirView) (tree : Bool) : T
   pub placed : (b : ℕ) (r : DirRecord) → b < count → v.copies b ≡ Some r → PlacedAt v b r r.place
   pub rooted : (b : ℕ) (r : DirRecord)
       → b < count → v.copies b ≡ Some r → r.place ≡ None → g ≡ root
+  -- it is as deep as the tree says
+  pub deep : (b : ℕ) (r : DirRecord)
+      → b < count → v.copies b ≡ Some r → r.depth ≡ depth_in descent
   -- and no name is its but where it has a copy of that name
   pub named : (b : ℕ) (e : Entry) → b < count → v.mains b e ≡ true → CopyAt v b e

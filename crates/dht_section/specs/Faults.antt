@@ -1,7 +1,7 @@
 -- Bricks that are down, fail or have no memory: which replies tell of one, and which answers.
 use Rattle.std.specs.Prelude.{◌≡◌, Option, Some, None, MatchOption}
 use Rattle.dht_types.specs.declared.errors.Errno.{Errno}
-use Rattle.dht_types.specs.declared.errors.Errno.TheVariants.{Enoent, Enomem, Eexist, Einval, Enametoolong, Eisdir, Estale, Enotconn, Eio}
+use Rattle.dht_types.specs.declared.errors.Errno.TheVariants.{Enoent, Enomem, Eexist, Einval, Enametoolong, Enotdir, Eisdir, Enotempty, Estale, Enotconn, Eio}
 use Rattle.dht_types.specs.declared.calls.Answer.{Answer}
 use Rattle.dht_types.specs.declared.calls.Answer.TheVariants.{File, Dir, Made, Done, Fault}
 use Rattle.dht_brick.specs.declared.requests.Request.{Request}
@@ -28,7 +28,9 @@ brick_error Enoent = None
 brick_error Eexist = None
 brick_error Einval = None
 brick_error Enametoolong = None
+brick_error Enotdir = None
 brick_error Eisdir = None
+brick_error Enotempty = None
 brick_error Estale = None
 
 -- the error of a brick that stopped a part of a call

@@ -2,7 +2,8 @@
 -- whoever asks. Its parts by thing are each about one name, one file, one directory or one lock.
 use Rattle.std.specs.Prelude.{ℕ, ◌+◌, ◌^◌, ◌<◌, ◌≤◌, ◌≡◌, ◌≢◌, Any, true, is_some, Some, None, length}
 use Rattle.dht_types.specs.Gfid.{Entry, root}
-use Rattle.dht_types.specs.Tree.{Tree}
+use Rattle.dht_types.specs.Counted.{CallsCounted}
+use Rattle.dht_types.specs.Tree.{Tree, IsTree}
 use Rattle.dht_types.specs.History.{History, PendingCall, IsOwn}
 use Rattle.dht_types.specs.declared.identifiers.Gfid.{Gfid}
 use Rattle.dht_types.specs.declared.identifiers.CallNo.{CallNo}
@@ -18,10 +19,12 @@ use Rattle.dht_section.specs.Locks.{LockInvariant}
 use Rattle.dht_section.specs.Names.{NameInvariant}
 use Rattle.dht_section.specs.Views.{cores_of, view_of, dir_view}
 
--- the gfid is of something: a file or directory of the tree, or one of which a brick has a record or a seal
+-- the gfid is of something: a file or directory of the tree, a directory that was one, or one of which a
+-- brick has a record or a seal
 pub data Used (d : Disk) (t : Tree) (g : Gfid) : Type 0 where
   ByBytes : t.bytes g ≢ None → Used d t g
   ByDir : t.dirs g ≡ true → Used d t g
+  ByDescent : t.descents g ≢ None → Used d t g
   ByRecord : (b : ℕ) (r : Record) → b < d.count → file_at d b g ≡ Some r → Used d t g
   ByCopy : (b : ℕ) → b < d.count → is_some (dir_at d b g) ≡ true → Used d t g
   BySeal : (view_of d g).sealed ≡ true → Used d t g
@@ -34,7 +37,7 @@ most_hops s = 2 ^ 62 + s.size
 pub record Things (d : Disk) (t : Tree) (top : ℕ) (claims : ℕ → Claim) : Type 0 where
   pub names : (e : Entry) → NameInvariant d.count (cores_of d e) (t.names e)
   pub files : (f : Gfid) → FileInvariant d.count top (places_of claims f) (view_of d f) (t.bytes f)
-  pub dirs : (g : Gfid) → DirInvariant d.count g (dir_view d g) (t.dirs g)
+  pub dirs : (g : Gfid) → DirInvariant d.count g (dir_view d g) (t.dirs g) (t.descents g)
   pub locks : (b : ℕ) (key : Key) → b < d.count → LockInvariant b key (holders d b key) claims
   -- a brick has slots only of directories that it has, and it has the root
   pub housed : (e : Entry) (b : ℕ)
@@ -56,6 +59,8 @@ pub record Invariant (d : Disk) (s : History) (claims : ℕ → Claim) : Type 0 
   pub counted : d.count ≡ length s.weights
   pub few : d.count ≤ 32
   -- the history
+  pub tree : IsTree s.tree
+  pub counts : CallsCounted s
   pub point : s.past s.size ≡ s.tree
   -- each gfid of this run was made by a call that was accepted, and by none that has done nothing yet
   pub known : (g : Gfid) (c : ClientNo) (k : CallNo)

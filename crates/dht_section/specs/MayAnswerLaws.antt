@@ -21,7 +21,7 @@ may_answer_stable f s t h o = answers_kept s.history t.history s.mine t.mine f.a
 }) h
 
 -- what is true or something else is true
-or_true : (a b : Bool) → a ≡ true → (a || b) ≡ true
+pub or_true : (a b : Bool) → a ≡ true → (a || b) ≡ true
 or_true true b e = refl
 or_true false b e = absurd (let z : false ≡ true = e in cc)
 

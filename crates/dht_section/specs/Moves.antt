@@ -1,17 +1,19 @@
 -- What one request of mine makes of the scene.
-use Rattle.std.specs.Prelude.{ℕ, ◌≤◌, ◌≡◌, ◌||◌, Bool, true, false, Option, Some, None, length}
+use Rattle.std.specs.Prelude.{ℕ, ◌≤◌, ◌≡◌, ◌||◌, nat_eq, if◌then◌else◌, Bool, true, false, Option, Some, None, length}
+use Rattle.dht_types.specs.Gfid.{home}
 use Rattle.dht_types.specs.Tree.{Tree, applied}
 use Rattle.dht_types.specs.Volume.{replay_names}
 use Rattle.dht_types.specs.History.{PendingCall, Deeds, deeds_after, is_carried, is_down, is_failed}
+use Rattle.dht_types.specs.declared.identifiers.Gfid.{Gfid}
 use Rattle.dht_types.specs.declared.calls.TreeStep.{TreeStep}
-use Rattle.dht_types.specs.declared.calls.TreeStep.TheVariants.{AddFile, RemoveFile}
+use Rattle.dht_types.specs.declared.calls.TreeStep.TheVariants.{AddFile, AddDir, RemoveFile, RemoveDir}
 use Rattle.dht_brick.specs.Contents.{Contents}
 use Rattle.dht_brick.specs.Kinds.{reply_kind}
 use Rattle.dht_brick.specs.Bricks.{ServesOrFails}
 use Rattle.dht_brick.specs.Outcome.{Outcome}
 use Rattle.dht_brick.specs.Rows.{row}
 use Rattle.dht_brick.specs.declared.requests.NameRequest.{NameRequest}
-use Rattle.dht_brick.specs.declared.requests.NameRequest.TheVariants.{Create, Unlink}
+use Rattle.dht_brick.specs.declared.requests.NameRequest.TheVariants.{Create, MakeDir, Unlink, DropDir}
 use Rattle.dht_brick.specs.declared.requests.Request.{Request}
 use Rattle.dht_brick.specs.declared.requests.Request.TheVariants.{OnNames, Unlock}
 use Rattle.dht_brick.specs.declared.replies.Reply.{Reply}
@@ -20,19 +22,26 @@ use Rattle.dht_section.specs.Disk.{ChangesOneBrick}
 use Rattle.dht_section.specs.Scene.{Scene}
 use Rattle.dht_section.specs.declared.machine.Ask.{Ask}
 
--- the step of the tree that a carried-out request stands for
-abbrev pub name_step : NameRequest → Option TreeStep
-name_step (Create d n f) = Some (AddFile d n f)
-name_step (Unlink d n f) = Some (RemoveFile d n)
-name_step q = None
+-- this step, if a brick is the home of the directory
+abbrev pub at_home : ℕ → Gfid → TreeStep → Option TreeStep
+at_home b g step = if nat_eq b (home g) then Some step else None
 
-abbrev pub request_step : Request → Option TreeStep
-request_step (OnNames q) = name_step q
-request_step q = None
+-- the step of the tree that a request stands for where this brick carries it out
+abbrev pub name_step : ℕ → NameRequest → Option TreeStep
+name_step b (Create d n f) = Some (AddFile d n f)
+name_step b (MakeDir d n g depth value) = at_home b g (AddDir d n g)
+name_step b (Unlink d n f) = Some (RemoveFile d n)
+name_step b (DropDir d n g) = at_home b g (RemoveDir d n)
+name_step b q = None
 
-abbrev pub step_of : Request → Reply → Option TreeStep
-step_of q (Carried given) = request_step q
-step_of q r = None
+abbrev pub request_step : ℕ → Request → Option TreeStep
+request_step b (OnNames q) = name_step b q
+request_step b q = None
+
+-- and where it replied so
+abbrev pub step_of : ℕ → Request → Reply → Option TreeStep
+step_of b q (Carried given) = request_step b q
+step_of b q r = None
 
 -- the tree after a step, or after none
 abbrev pub tree_by : Option TreeStep → Tree → Tree
@@ -79,9 +88,11 @@ pub record Guarantee (s : Scene) (a : Ask) (r : Reply) (t : Scene) : Type 0 wher
   pub unlocked : IsUnlock a.request → (cut ≡ false) × (is_carried (reply_kind real) ≡ true)
   pub claims : t.claims ≡ s.claims
   pub who : t.who ≡ s.who
-  pub mine : CallAfter s.mine r (deeds_by s t.history.size (step_of a.request real)) t.mine
-  pub tree : t.history.tree ≡ tree_by (step_of a.request real) s.history.tree
+  pub mine : CallAfter s.mine r (deeds_by s t.history.size (step_of a.brick.0 a.request real)) t.mine
+  pub tree : t.history.tree ≡ tree_by (step_of a.brick.0 a.request real) s.history.tree
   pub run : t.history.run ≡ s.history.run
   pub weights : t.history.weights ≡ s.history.weights
+  -- no call is accepted meanwhile
+  pub calls : t.history.calls ≡ s.history.calls
   pub later : s.history.size ≤ t.history.size
   pub past : (j : ℕ) → j ≤ s.history.size → t.history.past j ≡ s.history.past j

@@ -1,20 +1,19 @@
 -- What all others together may do between two requests of mine.
-use Rattle.std.specs.Prelude.{ℕ, true, ◌<◌, ◌≤◌, ◌≡◌, ◌≢◌, ◌⊎◌, Option, Some, None, List, slice_index_or}
+use Rattle.std.specs.Prelude.{ℕ, Bool, true, ◌<◌, ◌≤◌, ◌≡◌, ◌≢◌, Option, Some, None, List}
 use Rattle.dht_types.specs.Gfid.{Entry}
-use Rattle.dht_types.specs.History.{PendingCall}
-use Rattle.dht_types.specs.Tree.{Tree}
+use Rattle.dht_types.specs.History.{PendingCall, IsAlone}
+use Rattle.dht_types.specs.Tree.{Tree, Descent}
 use Rattle.dht_types.specs.declared.identifiers.Gfid.{Gfid}
 use Rattle.dht_types.specs.declared.identifiers.BrickNo.{BrickNo}
 use Rattle.dht_types.specs.declared.locks.Key.{Key}
 use Rattle.dht_types.specs.declared.stored.DirRecord.{DirRecord}
 use Rattle.dht_types.specs.declared.stored.Record.{Record}
 use Rattle.dht_types.specs.declared.stored.Record.TheVariants as stored
-use Rattle.dht_xattr.specs.Plan.{planned}
-use Rattle.dht_xattr.specs.declared.range.Range.{Range}
 use Rattle.dht_section.specs.Disk.{Disk, slot_at, file_at, dir_at, range_of, holders}
 use Rattle.dht_section.specs.Files.{NoLink, NoCopy}
-use Rattle.dht_section.specs.Scene.{Scene, HoldsDir, Guards, NameStands}
-use Rattle.dht_section.specs.Shapes.{NameShape, Grows}
+use Rattle.dht_section.specs.Planned.{bounds, AllPlanned}
+use Rattle.dht_section.specs.Scene.{Scene, HoldsDir, HoldsAlone, HoldsName, Guards, NameStands}
+use Rattle.dht_section.specs.Shapes.{NameShape, Folder, Grows}
 use Rattle.dht_section.specs.Views.{core, links_to, view_of}
 
 -- a record without its bytes: what only who guards a name of the file may change
@@ -31,18 +30,6 @@ outline (Some (stored.Live hop bytes)) = IsLive hop
 outline (Some (stored.Moving hop t bytes)) = IsMoving hop t
 outline (Some (stored.Standby c)) = IsStandby c.hop c.source c.dir c.name
 outline (Some (stored.Forward hop brick)) = IsForward hop brick
-
--- the hashes of a range, whatever its commit word
-abbrev pub bounds : Option Range → Option (ℕ × ℕ)
-bounds None = None
-bounds (Some r) = Some (r.first, r.last)
-
--- each brick has the planned range of the directory, or none
-abbrev pub AllPlanned : Disk → List ℕ → Gfid → Type 0
-AllPlanned d weights g =
-    (b : ℕ) (r : DirRecord) → b < d.count → dir_at d b g ≡ Some r
-    → (bounds (range_of (Some r)) ≡ None)
-    ⊎ (bounds (range_of (Some r)) ≡ bounds (slice_index_or (planned weights g) b None))
 
 -- a copy of a directory stays, but that its commit word may be cleared
 pub record CopyStays (r q : DirRecord) : Type 0 where
@@ -72,6 +59,12 @@ pub record IsNameless (d : Disk) (t : Tree) (f : Gfid) : Type 0 where
   pub links : NoLink d.count (view_of d f)
   pub copies : NoCopy d.count (view_of d f)
 
+-- nothing was done meanwhile: the tree is as it was, and what each brick stores
+pub record IsStill (s t : Scene) : Type 0 where
+  pub before : IsAlone s.history s.mine
+  pub tree : t.history.tree ≡ s.history.tree
+  pub stores : (b : ℕ) → (t.disk.brick b).store ≡ (s.disk.brick b).store
+
 pub record Rely (s t : Scene) : Type 0 where
   pub who : t.who ≡ s.who
   pub mine : SameCall s.mine t.mine
@@ -98,7 +91,16 @@ pub record Rely (s t : Scene) : Type 0 where
       → AllPlanned t.disk t.history.weights g
   pub known : (g : Gfid)
       → HoldsDir s g → s.history.tree.dirs g ≡ true → t.history.tree.dirs g ≡ true
-  -- what needs no lock
+  -- one that I hold alone, and whose name I hold, keeps its copies and gets none
+  pub both : (e : Entry) (g : Gfid) (on : ℕ → Bool)
+      → HoldsName s e → HoldsAlone s g → NameStands s e (Folder g on) → NameStands t e (Folder g on)
+  -- what needs no lock: ranges that are all planned stay so, and a directory stands where it was made
+  pub planned : (g : Gfid)
+      → AllPlanned s.disk s.history.weights g → AllPlanned t.disk t.history.weights g
+  pub made : (g : Gfid) (x : Descent)
+      → s.history.tree.descents g ≡ Some x → t.history.tree.descents g ≡ Some x
+  -- nobody does anything while my call is alone
+  pub still : IsAlone t.history t.mine → IsStill s t
   pub used : (f : Gfid) → IsFileUsed s.disk s.history.tree f → IsFileUsed t.disk t.history.tree f
   pub sealed : (f : Gfid) → (view_of s.disk f).sealed ≡ true → (view_of t.disk f).sealed ≡ true
   pub nameless : (f : Gfid)

@@ -3,7 +3,7 @@
 use Rattle.std.specs.Prelude.{ℕ, ◌≤◌, ◌≡◌, ◌⊎◌, true, Option, Some, None, is_some}
 use Rattle.dht_types.specs.Gfid.{Entry}
 use Rattle.dht_types.specs.Tree.{Fits}
-use Rattle.dht_types.specs.History.{History, PendingCall, Answers, IsNext, MakesOwn}
+use Rattle.dht_types.specs.History.{History, PendingCall, Answers, IsAlone, IsNext, MakesOwn}
 use Rattle.dht_types.specs.declared.identifiers.Gfid.{Gfid}
 use Rattle.dht_types.specs.declared.identifiers.ClientNo.{ClientNo}
 use Rattle.dht_types.specs.declared.calls.Answer.TheVariants.{Fault}
@@ -76,6 +76,10 @@ pub record Wants (s : Scene) (step : TreeStep) : Type 0 where
 abbrev pub WantsAll : Scene → Option TreeStep → Type 0
 WantsAll s None = Unit {0}
 WantsAll s (Some step) = Wants s step
+
+-- this holds if my call was the only one in its span so far
+abbrev pub IfAlone : (Scene → Type 0) → Scene → Type 0
+IfAlone P s = IsAlone s.history s.mine → P s
 
 -- the call may answer so now
 abbrev pub MayAnswer : Finish → Scene → Type 0

@@ -2,11 +2,12 @@
 use Rattle.std.specs.Prelude.{ℕ, suc, ◌+◌, ◌-◌, ◌<◌, ◌≤◌, ◌≡◌, ◌≢◌, ◌⊎◌, ◌&&◌, nat_eq, nat_lt, Bool, true, false, if◌then◌else◌, is_some, Option, Some, None, List, length, Contains, replicate, ◌∷◌, [], ◌==◌, slice_index_or}
 use Rattle.dht_types.specs.Gfid.{Entry, root, home, anchor}
 use Rattle.dht_types.specs.History.{is_carried}
+use Rattle.dht_types.specs.Tree.{Node, IsFile, IsDir, Descent}
 use Rattle.dht_types.specs.declared.errors.Errno.{Errno}
 use Rattle.dht_types.specs.declared.identifiers.BrickNo.{BrickNo}
 use Rattle.dht_types.specs.declared.identifiers.Gfid.{Gfid}
 use Rattle.dht_types.specs.declared.locks.Key.{Key}
-use Rattle.dht_types.specs.declared.locks.Key.TheVariants.{Dir, Entry as Name}
+use Rattle.dht_types.specs.declared.locks.Key.TheVariants.{Dir as DirKey, Entry as Name}
 use Rattle.dht_types.specs.declared.locks.Mode.{Mode}
 use Rattle.dht_hash.specs.DaviesMeyer.{dm}
 use Rattle.dht_xattr.specs.Layout.{holder}
@@ -21,11 +22,11 @@ use Rattle.dht_section.specs.declared.machine.Turn.{Turn}
 use Rattle.dht_section.specs.declared.machine.Turn.TheVariants.{Go, Done}
 use Rattle.dht_section.specs.Claims.{Claim, no_claim, claims_locks}
 use Rattle.dht_section.specs.Disk.{lock_at, slot_at, file_at, dir_at, range_at}
-use Rattle.dht_section.specs.Looks.{sight_with, no_sight, mark_at, linkto_in, linkto_at, not_looked, looked_at, with_looked, is_nodir, file_in, IsNoDir, looks_left}
+use Rattle.dht_section.specs.Looks.{sight_with, no_sight, mark_at, linkto_in, linkto_at, not_looked, looked_at, with_looked, is_nodir, looks_left}
 use Rattle.dht_section.specs.Replies.{fault_of, is_shown}
-use Rattle.dht_section.specs.Rely.{bounds, AllPlanned}
+use Rattle.dht_section.specs.Planned.{bounds, AllPlanned}
 use Rattle.dht_section.specs.Scene.{Scene, NameStands, MayAnswer, fault_finish}
-use Rattle.dht_section.specs.Shapes.{NameShape, Bare, Plain, node_of}
+use Rattle.dht_section.specs.Shapes.{NameShape, Bare, Folder, Plain}
 use Rattle.dht_section.specs.Stages.{Stage, Ending, MatchTurn}
 use Rattle.dht_section.specs.Views.{links_to}
 use Rattle.dht_section.specs.Want.{Wanted, Scoped, IsOrdered, IsScope, key_at, name_at, place_of, mode_of, dir_of, lock_brick, claimed}
@@ -33,7 +34,7 @@ use Rattle.dht_section.specs.declared.looks.Looked.{Looked}
 use Rattle.dht_section.specs.declared.looks.Place.{Place}
 use Rattle.dht_section.specs.declared.looks.Sight.{Sight}
 use Rattle.dht_section.specs.declared.looks.What.{What}
-use Rattle.dht_section.specs.declared.looks.What.TheVariants.{File}
+use Rattle.dht_section.specs.declared.looks.What.TheVariants.{Absent, Dir, File}
 use Rattle.dht_section.specs.declared.section.Held.{Held}
 use Rattle.dht_section.specs.declared.section.Opened.{Opened}
 use Rattle.dht_section.specs.declared.section.Opened.TheVariants.{Held as Holding, Gone as IsGone, Stopped as IsStopped}
@@ -87,22 +88,36 @@ HoldsKey w key s = lock_at s.disk (dir_of key) key s.who ≡ Some (mode_of w key
 abbrev pub AllHeld : Scoped → ℕ → Scene → Type 0
 AllHeld w i s = (j : ℕ) → j < i → HoldsKey w (key_at w j) s
 
--- how a name stands that was found so on all bricks
+-- how a name stands that is this file's, or nobody's
 abbrev pub found_shape : Option Place → NameShape
 found_shape None = Bare
 found_shape (Some p) = Plain p.brick.0 p.file
 
--- what the bricks below a limit show of a name that is there, or nowhere
-abbrev pub shown_below : ℕ → Option Place → Option Place
-shown_below limit None = None
-shown_below limit (Some p) = if nat_lt p.brick.0 limit then Some p else None
+-- how a name stands that was seen to be this: a directory has copies on some bricks
+abbrev pub StandsSeen : Entry → What → Scene → Type 0
+StandsSeen e Absent s = NameStands s e Bare
+StandsSeen e (Dir g) s = (on : ℕ → Bool) × NameStands s e (Folder g on)
+StandsSeen e (File f b links) s = NameStands s e (Plain b.0 f)
 
--- nothing stands at the name, or a file on one brick; and this is what the bricks below the limit
--- showed of it
-pub record Saw (e : Entry) (limit : ℕ) (found : Option Place) (s : Scene) : Type 0 where
-  pub full : Option Place
-  pub stands : NameStands s e (found_shape full)
-  pub shows : found ≡ shown_below limit full
+-- what the tree has at it
+abbrev pub node_seen : What → Option Node
+node_seen Absent = None
+node_seen (Dir g) = Some (IsDir g)
+node_seen (File f b links) = Some (IsFile f)
+
+-- what the bricks below a limit show of a name that is this: a file's brick shows it, a directory's
+-- home, and perhaps other bricks
+abbrev pub ShownBelow : ℕ → What → What → Type 0
+ShownBelow limit Absent shown = shown ≡ Absent
+ShownBelow limit (Dir g) shown = (shown ≡ Dir g) ⊎ ((shown ≡ Absent) × (limit ≤ home g))
+ShownBelow limit (File f b links) shown =
+    ((b.0 < limit) × (shown ≡ File f b links)) ⊎ ((limit ≤ b.0) × (shown ≡ Absent))
+
+-- this stands at the name, and that is what the bricks below the limit showed of it
+pub record Saw (e : Entry) (limit : ℕ) (shown : What) (s : Scene) : Type 0 where
+  pub full : What
+  pub stands : StandsSeen e full s
+  pub shows : ShownBelow limit full shown
 
 -- a brick has a copy of the directory, with the range that was read, but for its commit word
 pub record HasCopy (g : Gfid) (read : Option Range) (b : ℕ) (s : Scene) : Type 0 where
@@ -132,7 +147,11 @@ pub record SawAt (e : Entry) (x : Looked) (s : Scene) : Type 0 where
   pub after : s.mine.since ≤ x.at
   pub before : x.at ≤ s.history.size
   pub directory : (s.history.past x.at).dirs e.0 ≡ true
-  pub node : (s.history.past x.at).names e ≡ node_of (found_shape (file_in x.sight.what))
+  pub node : (s.history.past x.at).names e ≡ node_seen x.sight.what
+  -- its directory was as deep as it is
+  pub descent : Descent
+  pub was : (s.history.past x.at).descents e.0 ≡ Some descent
+  pub is : s.history.tree.descents e.0 ≡ Some descent
 
 -- a brick's linkto at the name leads where it was seen to lead, or there is none
 pub record BrickShown (e : Entry) (x : Sight) (b : ℕ) (s : Scene) : Type 0 where
@@ -150,19 +169,27 @@ abbrev pub WhatShown : Entry → What → ℕ → Scene → Type 0
 WhatShown e (File f b links) hop s = FileShown e b.0 f hop s
 WhatShown e what hop s = Unit {0}
 
+-- there is a place for each brick
+abbrev pub HasRoom : Sight → Type 0
+HasRoom x = (length x.linktos ≡ 32) × (length x.copies ≡ 32)
+
 -- so was each of the bricks below a limit
 pub record Shown (e : Entry) (x : Sight) (limit : ℕ) (s : Scene) : Type 0 where
-  pub room : (length x.linktos ≡ 32) × (length x.copies ≡ 32)
+  pub room : HasRoom x
   pub bricks : (b : ℕ) → b < limit → BrickShown e x b s
   pub file : WhatShown e x.what x.hop s
 
+-- unless the name is a directory's: bricks may get copies of that
+abbrev pub ShownOf : What → Entry → Sight → ℕ → Scene → Type 0
+ShownOf (Dir g) e x limit s = HasRoom x
+ShownOf what e x limit s = Shown e x limit s
+
 -- the name stands as it was seen, and did at the last look's line; and the directory as it was read
 pub record IsLooked (bricks : ℕ) (e : Entry) (x : Looked) (s : Scene) : Type 0 where
-  pub file : IsNoDir x.sight.what
-  pub stands : NameStands s e (found_shape (file_in x.sight.what))
+  pub stands : StandsSeen e x.sight.what s
   pub read : Reads e.0 x.sight s
   pub whole : length x.sight.layout ≡ bricks
-  pub shown : Shown e x.sight bricks s
+  pub shown : ShownOf x.sight.what e x.sight bricks s
   pub saw : SawAt e x s
 
 -- so do all names below a place
@@ -185,11 +212,10 @@ pub record LookingKnows (w : Scoped) (looks : List Looked) (n : ℕ) (b : BrickN
   pub within : b.0 < w.bricks
   pub room : length looks ≡ length w.names
   pub holds : AllHeld w (length w.keys) s
-  pub file : IsNoDir x.what
-  pub saw : Saw (name_at w n) b.0 (file_in x.what) s
+  pub saw : Saw (name_at w n) b.0 x.what s
   pub read : Reads (name_at w n).0 x s
   pub whole : length x.layout ≡ b.0
-  pub shown : Shown (name_at w n) x b.0 s
+  pub shown : ShownOf saw.full (name_at w n) x b.0 s
   pub looked : AllLooked w n looks s
 
 -- the locks above this one were given back, and this is earned
@@ -237,7 +263,7 @@ abbrev pub scope_of_name : ℕ → Gfid → Mode → List ℕ → Scoped
 scope_of_name bricks g mode n = record {
   bricks = bricks;
   dirs = (g, mode) ∷ [];
-  keys = Dir g ∷ Name g n ∷ [];
+  keys = DirKey g ∷ Name g n ∷ [];
   names = (g, n) ∷ [];
 }
 
@@ -250,8 +276,8 @@ first_section bricks g mode n = begun (prepared_for bricks g mode n)
 -- it asks for the directory's lock first, and sends so many requests at most
 pub record StartsWith (bricks : ℕ) (g : Gfid) (mode : Mode) (x : Stage) : Type 0 where
   pub brick : x.asks.brick.0 ≡ (if bricks == 0 then 0 else anchor g bricks)
-  pub request : x.asks.request ≡ Lock (Dir g) mode
-  pub claims : x.claims ≡ claims_locks (record { brick = x.asks.brick.0; key = Dir g } ∷ [])
+  pub request : x.asks.request ≡ Lock (DirKey g) mode
+  pub claims : x.claims ≡ claims_locks (record { brick = x.asks.brick.0; key = DirKey g } ∷ [])
   pub variant : x.variant ≡ bricks + 4
 
 -- ---- where it is between its requests

@@ -17,13 +17,14 @@ use Rattle.dht_xattr.specs.declared.range.Range.{Range}
 use Rattle.dht_brick.specs.Looks.{shape_of}
 use Rattle.dht_section.specs.Claims.{Claim, rank_cmp, IsAbove}
 use Rattle.dht_section.specs.Disk.{holders, lock_at, slot_at, file_at, dir_at, range_of}
-use Rattle.dht_section.specs.Looks.{looked_at, file_in, mark_at, linkto_in}
+use Rattle.dht_section.specs.Looks.{looked_at, mark_at, linkto_in}
 use Rattle.dht_section.specs.MayAnswerLaws.{may_answer_stable}
 use Rattle.dht_section.specs.Permits.{StandsOn}
-use Rattle.dht_section.specs.Rely.{Rely, bounds, AllPlanned, Outline, NoRecord, IsLive, IsMoving, IsStandby, IsForward, outline}
+use Rattle.dht_section.specs.Planned.{bounds, AllPlanned}
+use Rattle.dht_section.specs.Rely.{Rely, Outline, NoRecord, IsLive, IsMoving, IsStandby, IsForward, outline}
 use Rattle.dht_section.specs.Scene.{Scene, Sound, HoldsDir, HoldsName, NameStands, fault_finish}
-use Rattle.dht_section.specs.Section.{HasCopy, HadNoCopy, ReadAt, Reads, found_shape, HasScope, IsFresh, HoldsKey, AllHeld, SawAt, WhatShown, Shown, IsLooked, IsHeld, WasGone, unheld_earned, unlocking_stage, section_stage}
-use Rattle.dht_section.specs.Shapes.{NameShape, Grows}
+use Rattle.dht_section.specs.Section.{HasCopy, HadNoCopy, ReadAt, Reads, StandsSeen, ShownOf, found_shape, HasScope, IsFresh, HoldsKey, AllHeld, SawAt, WhatShown, Shown, IsLooked, IsHeld, WasGone, unheld_earned, unlocking_stage, section_stage}
+use Rattle.dht_section.specs.Shapes.{NameShape, Bare, Folder, Plain, Grows}
 use Rattle.dht_section.specs.Stages.{MaySend, IsStable}
 use Rattle.dht_section.specs.Views.{core, links_to}
 use Rattle.dht_section.specs.Want.{Scoped, IsOrdered, IsGuard, key_at, name_at, dir_of, lock_brick, lock_in, claimed}
@@ -133,7 +134,7 @@ holds_name w n s order l h =
     }
 
 -- a copy of a directory that I hold stays, with its range
-copy_stable : (g : Gfid) (read : Option Range) (b : ℕ) (s t : Scene) (o : Option DirRecord) → dir_at s.disk b g ≡ o → HoldsDir s g → HasCopy g read b s → Rely s t → HasCopy g read b t
+pub copy_stable : (g : Gfid) (read : Option Range) (b : ℕ) (s t : Scene) (o : Option DirRecord) → dir_at s.disk b g ≡ o → HoldsDir s g → HasCopy g read b s → Rely s t → HasCopy g read b t
 copy_stable g read b s t None e holds h o = absurd (let z : false ≡ true = ap is_some (sym e) ∙ h.there in cc)
 copy_stable g read b s t (Some r) e holds h o =
     let q = o.dirs g b r holds e in
@@ -193,6 +194,9 @@ saw_at_stable e x s t h o =
       before = omega arith;
       directory = ap (λ (p : Tree). p.dirs e.0) (o.past x.at h.before) ∙ h.directory;
       node = ap (λ (p : Tree). p.names e) (o.past x.at h.before) ∙ h.node;
+      descent = h.descent;
+      was = ap (λ (p : Tree). p.descents e.0) (o.past x.at h.before) ∙ h.was;
+      is = o.made e.0 h.descent h.is;
     }
 
 -- the core of a name's slot, by how it stands
@@ -253,14 +257,25 @@ stands_stable e found s t holds h o =
     let q = o.names e (found_shape found) (inl holds) h in
     subst (λ (k : NameShape). NameStands t e k) (found_grows found q.0 q.1) q.2
 
+-- what was seen at it stands, and a directory has got copies at most
+pub seen_stable : (e : Entry) (what : What) (s t : Scene) → HoldsName s e → StandsSeen e what s → Rely s t → StandsSeen e what t
+seen_stable e Absent s t holds h o = stands_stable e None s t holds h o
+seen_stable e (Directory g) s t holds h o =
+    let q = o.names e (Folder g h.0) (inl holds) h.1 in
+    (q.1.0, subst (λ (k : NameShape). NameStands t e k) q.1.1 q.2)
+seen_stable e (File f b links) s t holds h o = stands_stable e (Some (record { brick = b; file = f })) s t holds h o
+
+pub shown_of_stable : (e : Entry) (what : What) (x : Sight) (limit : ℕ) (s t : Scene) → HoldsName s e → StandsSeen e what s → StandsSeen e what t → ShownOf what e x limit s → Rely s t → ShownOf what e x limit t
+shown_of_stable e Absent x limit s t holds k q w o = shown_stable e x limit Bare s t holds k q w o
+shown_of_stable e (Directory g) x limit s t holds k q w o = w
+shown_of_stable e (File f b links) x limit s t holds k q w o = shown_stable e x limit (Plain b.0 f) s t holds k q w o
+
 pub looked_stable : (bricks : ℕ) (e : Entry) (x : Looked) (s t : Scene) → HoldsName s e → IsLooked bricks e x s → Rely s t → IsLooked bricks e x t
 looked_stable bricks e x s t holds h o =
-    let found = file_in x.sight.what in
-    let stands = stands_stable e found s t holds h.stands o in
+    let stands = seen_stable e x.sight.what s t holds h.stands o in
     record {
-      file = h.file;
       stands = stands;
-      shown = shown_stable e x.sight bricks (found_shape found) s t holds h.stands stands h.shown o;
+      shown = shown_of_stable e x.sight.what x.sight bricks s t holds h.stands stands h.shown o;
       read = reads_stable e.0 x.sight s t holds.dir h.read o;
       whole = h.whole;
       saw = saw_at_stable e x s t h.saw o;
@@ -302,7 +317,7 @@ section_stable (Locking w i looks) s t h o = record {
 section_stable (Looking w looks n b x) s t h o =
     let e = name_at w n in
     let holds = holds_name w n s h.order h.name h.holds in
-    let stands = stands_stable e h.saw.full s t holds h.saw.stands o in
+    let stands = seen_stable e h.saw.full s t holds h.saw.stands o in
     record {
       order = h.order;
       fresh = fresh_stable w s t h.fresh o;
@@ -310,11 +325,10 @@ section_stable (Looking w looks n b x) s t h o =
       within = h.within;
       room = h.room;
       holds = held_stable w (length w.keys) s t h.holds o;
-      file = h.file;
       saw = record { full = h.saw.full; stands = stands; shows = h.saw.shows };
       read = reads_stable e.0 x s t holds.dir h.read o;
       whole = h.whole;
-      shown = shown_stable e x b.0 (found_shape h.saw.full) s t holds h.saw.stands stands h.shown o;
+      shown = shown_of_stable e h.saw.full x b.0 s t holds h.saw.stands stands h.shown o;
       looked = λ j l. looked_stable w.bricks (name_at w j) (looked_at looks j) s t (holds_name w j s h.order (let k = h.name in omega arith) h.holds) (h.looked j l) o;
     }
 section_stable (Unlocking w i x) s t h o = unlocking_stable w i (unheld_earned w x) (unheld_stable w x) s t h o

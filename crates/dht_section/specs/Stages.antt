@@ -1,10 +1,14 @@
 -- Where a program is between its requests, and how a reply takes it on.
 use Rattle.std.specs.Prelude.{ℕ, ◌<◌, ◌≤◌, ◌≡◌, Bool, true, false, Option, MatchOption}
-use Rattle.dht_types.specs.History.{IsUndisturbed}
+use Rattle.dht_types.specs.History.{IsAlone, IsUndisturbed}
+use Rattle.dht_types.specs.declared.calls.Answer.TheVariants as answer
+use Rattle.dht_types.specs.declared.calls.Call.TheVariants.{Heal}
+use Rattle.dht_types.specs.declared.identifiers.Gfid.{Gfid}
 use Rattle.dht_brick.specs.declared.replies.Reply.{Reply}
 use Rattle.dht_brick.specs.declared.replies.Reply.TheVariants.{Wait}
 use Rattle.dht_section.specs.Claims.{Claim, MayClaim, no_claim}
 use Rattle.dht_section.specs.Disk.{holders}
+use Rattle.dht_section.specs.Healed.{IsHealed}
 use Rattle.dht_section.specs.Moves.{Guarantee}
 use Rattle.dht_section.specs.Permits.{Permitted}
 use Rattle.dht_section.specs.Rely.{Rely}
@@ -86,9 +90,19 @@ Moves stage ending m r at turn =
 abbrev pub answered : Finish → Ending
 answered f = record { claims = no_claim; earned = MayAnswer f }
 
+-- a heal that was alone has left its directory whole, and each above it
+abbrev pub LeavesWhole : Finish → Scene → Type 0
+LeavesWhole f s =
+    (d : Gfid) → s.mine.call ≡ Heal d → f.answer ≡ answer.Done → IsAlone s.history s.mine
+    → IsHealed s.disk s.history.tree d
+
+-- so a client's call ends
+abbrev pub call_answered : Finish → Ending
+call_answered f = record { claims = no_claim; earned = λ s. MayAnswer f s × LeavesWhole f s }
+
 -- the same of a client: its call goes on, or the client is idle and the call has ended
 abbrev pub CallMoves : {C : Type 0} → (C → Bool) → (C → Stage) → (old new : C) → Reply → ℕ → Option Finish → Type 0
 CallMoves is_busy stage old new r at answer =
     (s t : Scene) → Served (stage old) r at s t
     → MatchOption answer ((is_busy new ≡ true) × GoesOn (stage old) (stage new) r t)
-    (λ f. (is_busy new ≡ false) × EndsIn (stage old) (answered f) t)
+    (λ f. (is_busy new ≡ false) × EndsIn (stage old) (call_answered f) t)

@@ -95,6 +95,10 @@ pub record Stands (d : Disk) (t : Tree) : Type 0 where
 abbrev pub plain : Gfid → Slot
 plain f = record { main = Some (File f None); standby = None }
 
+-- and that of a directory's
+abbrev pub folder : Gfid → Slot
+folder g = record { main = Some (Dir g); standby = None }
+
 -- a name stands once: on its holder, which has the live record of the name's file, and on no other brick
 pub record Placed (d : Disk) (e : Entry) : Type 0 where
   pub brick : ℕ

@@ -5,10 +5,14 @@
 pub mod caller;
 pub mod closing;
 pub mod ended;
+pub mod finish;
 pub mod location;
 pub mod looks;
 pub mod machine;
+pub mod origin;
+pub mod pairs;
 pub mod reap;
+pub mod release;
 pub mod replies;
 pub mod section;
 pub mod sweep;

@@ -153,7 +153,7 @@ impl Linkto {
 }
 
 /// The marks of bricks, with that of one brick.
-fn marked(marks: [bool; 32], brick: BrickNo, mark: bool) -> [bool; 32]
+pub fn marked(marks: [bool; 32], brick: BrickNo, mark: bool) -> [bool; 32]
     ensures { result ≡ with_at marks brick.0 mark }
 {
     let mut marks = marks;

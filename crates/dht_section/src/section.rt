@@ -7,7 +7,7 @@ ghost use Rattle.dht_types.specs.declared.identifiers.Gfid.{Gfid as AGfid};
 ghost use Rattle.dht_types.specs.declared.locks.Mode.{Mode as AMode};
 ghost use Rattle.dht_brick.specs.Parts.{is_linkto};
 ghost use Rattle.dht_section.specs.Disk.{slot_at, holder_of};
-ghost use Rattle.dht_section.specs.Looks.{mark_at, linkto_at, has_linkto, not_looked};
+ghost use Rattle.dht_section.specs.Looks.{IsNoDir, mark_at, linkto_at, has_linkto, not_looked};
 ghost use Rattle.dht_section.specs.Rely.{Rely};
 ghost use Rattle.dht_section.specs.Scene.{Scene, Sound, MayAnswer};
 ghost use Rattle.dht_section.specs.declared.section.Held.{Held as AHeld};
@@ -15,11 +15,13 @@ ghost use Rattle.dht_section.specs.Stages.{Moves};
 ghost use Rattle.dht_section.specs.Want.{IsScope, IsWhole};
 ghost use Rattle.dht_section.specs.Section.{section_stage, opened_ending, MayBegin, IsFirst, begun, prepared_for, first_section, StartsWith, last_lock, lock_ask, look_ask, unlock_ask, opened_as, all_locked, locked, lock_answered, unless_fault, name_looked, looked, shows_gone, look_answered, unlocked, section_after, KeepsScope, NamesGone, NotesFault, LeavesUnlocks, turn_layout, section_taught, held_layout, held_looked, held_holder, IsHeld, IsLooked, IsWanted};
 ghost use Rattle.dht_section.specs.Closing.{closing_of, Closes};
+ghost use Rattle.dht_section.specs.Release.{release_of, Releases};
 ghost use Rattle.dht_section.specs.SectionLaws.{section_permitted, section_stable};
 
 use super::closing::Closing;
 use super::looks::{Linkto, Looked, Looks, Sight, What, is_nodir, linkto_at, mark_at};
 use super::machine::{Ask, Finish, Machine, Turn};
+use super::release::Release;
 use super::replies::{fault_of, is_carried, is_shown};
 use super::want::{Scope, Want};
 use dht_brick::replies::Reply;
@@ -447,13 +449,22 @@ impl Held {
     {
         Closing::new(self, finish)
     }
+
+    /// Gives back the locks, and hands out its memory, with which the section may begin anew. It
+    /// takes no memory.
+    pub fn release(self) -> Release
+        ensures release { result ≡ release_of self }
+        ensures releases { (s : Scene) → IsHeld self s → Releases self s }
+    {
+        Release::new(self)
+    }
 }
 
 /// A section that is held stays so whatever others do. Each of its names stands as it was found, and
 /// did at the line of its last look, and its directory is one of the tree; the brick that holds it by
-/// the layout that was read holds it; and a brick has a linkto there exactly where one was seen. Of the
-/// root all bricks showed their copies, so the whole layout was read. These are laws for callers, and
-/// do nothing.
+/// the layout that was read holds it; and a brick has a linkto there exactly where one was seen, if the
+/// name is no directory. Of the root all bricks showed their copies, so the whole layout was read.
+/// These are laws for callers, and do nothing.
 pub fn a_section_stays()
     ensures stays { (h : AHeld) (s t : Scene) → IsHeld h s → Rely s t → IsHeld h t }
     ensures found { (h : AHeld) (e : Entry) (s : Scene) → IsHeld h s → IsWanted h e
@@ -467,7 +478,8 @@ pub fn a_section_stays()
     ensures copied { (h : AHeld) (e : Entry) (b : ℕ) (s : Scene) → IsHeld h s → IsWanted h e
         → e.0 ≡ root → b < h.scope.bricks → mark_at (held_looked h e).sight.copies b ≡ true }
     ensures linkto { (h : AHeld) (e : Entry) (b : ℕ) (s : Scene) → IsHeld h s → IsWanted h e
-        → b < h.scope.bricks → has_linkto (linkto_at (held_looked h e).sight.linktos b)
+        → IsNoDir (held_looked h e).sight.what → b < h.scope.bricks
+        → has_linkto (linkto_at (held_looked h e).sight.linktos b)
         ≡ is_linkto (slot_at s.disk b e).main }
 {}
 

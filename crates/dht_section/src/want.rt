@@ -6,6 +6,8 @@ ghost use Rattle.std.specs.List.{list_any};
 ghost use Rattle.dht_types.specs.declared.identifiers.Gfid.{Gfid as AGfid};
 ghost use Rattle.dht_types.specs.declared.locks.Mode.{Mode as AMode};
 ghost use Rattle.dht_section.specs.Claims.{rank_cmp};
+ghost use Rattle.dht_section.specs.Looks.{with_at};
+ghost use Rattle.dht_section.specs.Pairs.{lower, upper, pair_scope, aimed_scope};
 ghost use Rattle.dht_section.specs.Want.{dir_key, name_key, keys_of, entry_cmp, IsSorting, IsScope, IsOfOne, Scoped, key_at, name_at, place_of, is_alone, mode_of, lock_brick};
 
 use dht_types::identifiers::{BrickNo, Gfid};
@@ -115,6 +117,29 @@ fn is_alone(dirs: &[(Gfid, Mode)], directory: Gfid) -> bool
         .any(|dir| dir.0 == directory && dir.1 == Mode::Exclusive)
 }
 
+/// The directory whose lock comes first of two.
+fn lower(directory: Gfid, own: Gfid) -> Gfid
+    ensures { result ≡ lower directory own }
+{
+    if own.0 < directory.0 { own } else { directory }
+}
+
+/// The directory whose lock comes last of two.
+fn upper(directory: Gfid, own: Gfid) -> Gfid
+    ensures { result ≡ upper directory own }
+{
+    if own.0 < directory.0 { directory } else { own }
+}
+
+/// Puts an element at a place of a list, if there is such a place.
+fn set_at<T: Copy>(list: &mut Vec<T>, place: usize, element: T)
+    ensures { list.new.items ≡ with_at list.old.items place element }
+{
+    if place < list.len() {
+        list[place] = element;
+    }
+}
+
 /// What a section locks and looks at, in order and each once, of a volume of so many bricks.
 #[derive(Drop)]
 pub struct Scope {
@@ -153,6 +178,46 @@ impl Scope {
             keys,
             names,
         })
+    }
+
+    /// What is locked and looked at for a name that is a directory's: the lock of the directory in
+    /// which it stands is shared, and that of the name's directory is taken alone.
+    pub fn of_pair(
+        alloc: Global,
+        bricks: u16,
+        directory: Gfid,
+        own: Gfid,
+        name: Name,
+    ) -> Result<Scope, AllocError>
+        ensures { IfOk result (λ w. w ≡ pair_scope bricks directory own name) }
+    {
+        let mut dirs = Vec::new(alloc);
+        dirs.push((directory, Mode::Shared))?;
+        dirs.push((own, Mode::Exclusive))?;
+        let mut keys = Vec::new(alloc);
+        keys.push(Key::Dir(lower(directory, own)))?;
+        keys.push(Key::Dir(upper(directory, own)))?;
+        keys.push(Key::Entry(directory, name))?;
+        let mut names = Vec::new(alloc);
+        names.push((directory, name))?;
+        Ok(Scope {
+            bricks,
+            dirs,
+            keys,
+            names,
+        })
+    }
+
+    /// The same with this directory for the name's, in the locks' order. It takes no memory.
+    pub fn aimed(self, own: Gfid) -> Scope
+        ensures { result ≡ aimed_scope self own }
+    {
+        let (directory, _) = self.name(0);
+        let mut scope = self;
+        set_at(&mut scope.dirs, 1, (own, Mode::Exclusive));
+        set_at(&mut scope.keys, 0, Key::Dir(lower(directory, own)));
+        set_at(&mut scope.keys, 1, Key::Dir(upper(directory, own)));
+        scope
     }
 
     /// How many bricks the volume has.

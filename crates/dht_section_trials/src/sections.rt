@@ -3,13 +3,14 @@
 use dht_brick::replies::{Given, Look, Reply, Why};
 use dht_brick::requests::{NameRequest, Request};
 use dht_section::looks::{Linkto, What};
-use dht_section::machine::{Finish, Machine, Turn};
+use dht_section::machine::{Ask, Finish, Machine, Turn};
+use dht_section::origin::Origin;
 use dht_section::section::{Opened, Section};
 use dht_section::want::Want;
 use dht_types::bytes::Bytes;
 use dht_types::calls::Answer;
 use dht_types::errors::Errno;
-use dht_types::identifiers::{BrickNo, ClientNo, Gfid};
+use dht_types::identifiers::{BrickNo, CallNo, ClientNo, Gfid};
 use dht_types::locks::{Key, Mode};
 use dht_types::names::Name;
 use dht_types::stored::{Main, Slot};
@@ -68,13 +69,17 @@ fn asks_look(section: &Section, directory: Gfid, name: &Name, brick: u16) -> boo
     }
 }
 
-/// What it asks is to give this lock back.
-fn asks_unlock(section: &Section, key: &Key) -> bool {
-    let ask = section.next();
+/// The request gives this lock back.
+fn unlocks(ask: &Ask, key: &Key) -> bool {
     match &ask.request {
         Request::Unlock(asked) => *asked == *key,
         _ => false,
     }
+}
+
+/// What the section asks is to give this lock back.
+fn asks_unlock(section: &Section, key: &Key) -> bool {
+    unlocks(&section.next(), key)
 }
 
 /// The section goes on after this reply.
@@ -215,5 +220,55 @@ fn one_name_is_held_by_two_locks(rt: HostRuntime) -> Result<(), Fail> {
     assert!(rt; asks_lock(&section, &Key::Entry(Gfid::ROOT, name), Mode::Exclusive));
     section = goes_on(section, Reply::Ok(Given::Nothing), 2)?;
     assert!(rt; asks_look(&section, Gfid::ROOT, &name, 0));
+    Ok(())
+}
+
+#[test]
+fn a_section_is_released_and_begins_anew(rt: HostRuntime) -> Result<(), Fail> {
+    let name = Name::of(b"a");
+    let mut section = Section::of_name(rt.alloc(), 1, DIR, Mode::Shared, name)?;
+    section = goes_on(section, Reply::Ok(Given::Nothing), 1)?;
+    section = goes_on(section, Reply::Ok(Given::Nothing), 2)?;
+    let Turn::Done(Opened::Held(held)) = section.take(shown(Some(Main::Dir(OTHER))), 3) else {
+        return Err(Fail::new("another turn"));
+    };
+    assert!(rt; matches!(held.found(DIR, &name).what, What::Dir(OTHER)));
+    let release = held.release();
+    assert!(rt;
+        unlocks(&release.next(), &Key::Entry(DIR, name)),
+        "the last lock first"
+    );
+    let Turn::Go(release) = release.take(Reply::Ok(Given::Nothing), 4) else {
+        return Err(Fail::new("another turn"));
+    };
+    assert!(rt; unlocks(&release.next(), &Key::Dir(DIR)));
+    let Turn::Done(prepared) = release.take(Reply::Ok(Given::Nothing), 5) else {
+        return Err(Fail::new("another turn"));
+    };
+    let mut section = prepared.begin();
+    assert!(rt; asks_lock(&section, &Key::Dir(DIR), Mode::Shared));
+    section = goes_on(section, Reply::Ok(Given::Nothing), 6)?;
+    section = goes_on(section, Reply::Ok(Given::Nothing), 7)?;
+    let Turn::Done(Opened::Held(held)) = section.take(shown(None), 8) else {
+        return Err(Fail::new("another turn"));
+    };
+    assert!(rt;
+        matches!(held.found(DIR, &name).what, What::Absent),
+        "as it is seen anew"
+    );
+    assert!(rt; held.found(DIR, &name).looked == 8);
+    Ok(())
+}
+
+#[test]
+fn a_gfid_tells_of_its_origin(rt: HostRuntime) -> Result<(), Fail> {
+    let origin = Origin {
+        run: 1,
+        client: ClientNo(2),
+        call: CallNo(3),
+    };
+    let gfid = origin.gfid(BrickNo(4));
+    assert!(rt; gfid == Gfid(0x0000_0001_0002_0000_0000_0000_0003_0004));
+    assert!(rt; gfid.home().0 == 4);
     Ok(())
 }

@@ -33,9 +33,10 @@ past_with_line s x j h = put_other nat_eq exact_nat s.past (s.size + 1) (tells s
 pub point_with_line : (s : History) (x : Line) → (with_line s x).past (with_line s x).size ≡ (with_line s x).tree
 point_with_line s x = put_same nat_eq exact_nat s.past (s.size + 1) (tells s x).tree
 
-step_run : (s : History) (step : TreeStep) (o : Option Owed) → (with_step s step o).run ≡ s.run
-step_run s step None = refl
-step_run s step (Some o) = refl
+step_run : (s : History) (step : TreeStep) (o a : Option Owed) → (with_step s step o a).run ≡ s.run
+step_run s step None None = refl
+step_run s step None (Some a) = refl
+step_run s step (Some o) a = refl
 
 -- a remount begins another run, and no other line does
 abbrev pub IsNoRemount : Line → Type 0
@@ -48,7 +49,7 @@ run_with_line s (Remounted w) h = absurd h
 run_with_line s (Called k c call) h = refl
 run_with_line s (Stepped k c b q r) h = refl
 run_with_line s (Waited k c b w) h = refl
-run_with_line s (Changed k step) h = step_run s step s.owed
+run_with_line s (Changed k step) h = step_run s step s.owed s.allowed
 run_with_line s (Answered k c j a) h = refl
 run_with_line s (WentDown b) h = refl
 run_with_line s (CameUp b) h = refl

@@ -1,4 +1,5 @@
 pub mod PutLaws
+pub mod TreeLaws
 pub mod HistoryLaws
 pub mod ContentLemmas
 pub mod HexLemmas

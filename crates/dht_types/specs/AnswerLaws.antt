@@ -1,5 +1,5 @@
 -- How long an answer stays right.
-use Rattle.std.proofs.Common.{◌≡◌, ◌≤◌, ℕ, true, sym, ◌∙◌, ap, subst, arith}
+use Rattle.std.proofs.Common.{◌≡◌, ◌≤◌, ℕ, true, inl, inr, sym, ◌∙◌, ap, subst, arith}
 use Rattle.std.specs.Prelude.{Option, Some, None}
 use Rattle.dht_types.specs.Calls.{refusal_at_once}
 use Rattle.dht_types.specs.Tree.{Tree, says, answer_of}
@@ -9,7 +9,7 @@ use Rattle.dht_types.specs.declared.calls.Call.{Call}
 use Rattle.dht_types.specs.declared.calls.Answer.{Answer}
 use Rattle.dht_types.specs.declared.calls.Answer.TheVariants.{File, Dir, Made, Done, Fault}
 use Rattle.dht_types.specs.declared.errors.Errno.{Errno}
-use Rattle.dht_types.specs.declared.errors.Errno.TheVariants.{Enoent, Enomem, Eexist, Einval, Enametoolong, Eisdir, Estale, Enotconn, Eio}
+use Rattle.dht_types.specs.declared.errors.Errno.TheVariants.{Enoent, Enomem, Eexist, Einval, Enametoolong, Enotdir, Eisdir, Enotempty, Estale, Enotconn, Eio}
 
 tells_at : (s t : History) (call : Call Gfid) (deeds : Option Deeds) (j : ℕ) (a : Answer) → t.past j ≡ s.past j → Tells s call deeds j a → Tells t call deeds j a
 tells_at s t call None j a e h = λ g. ap (λ (p : Tree). answer_of (says p call g)) e ∙ h g
@@ -52,8 +52,11 @@ fault_kept s t x y at Eexist g h = point_kept s t x y at _ g h
 fault_kept s t x y at Enotconn g h = (h.0, g.told_down h.1)
 fault_kept s t x y at Eio g h = (h.0, g.told_failed h.1)
 fault_kept s t x y at Einval g h = at_once_kept s t x y at _ g h
-fault_kept s t x y at Enametoolong g h = at_once_kept s t x y at _ g h
+fault_kept s t x y at Enametoolong g (inl h) = inl (at_once_kept s t x y at _ g h)
+fault_kept s t x y at Enametoolong g (inr h) = inr (point_kept s t x y at _ g h)
+fault_kept s t x y at Enotdir g h = point_kept s t x y at _ g h
 fault_kept s t x y at Eisdir g h = point_kept s t x y at _ g h
+fault_kept s t x y at Enotempty g h = point_kept s t x y at _ g h
 fault_kept s t x y at Estale g h = point_kept s t x y at _ g h
 
 pub answers_kept : (s t : History) (x y : PendingCall) (at : Option ℕ) (a : Answer) → Continues s t x y → Answers s x at a → Answers t y at a

@@ -1,21 +1,21 @@
 -- What the lines of a transcript tell, and when a transcript is legal. Nothing here speaks of bricks' contents or of programs.
-use Rattle.std.specs.Prelude.{ℕ, ◌+◌, ◌^◌, ◌<◌, ◌≤◌, ◌≡◌, ◌||◌, ◌&&◌, if◌then◌else◌, nat_eq, Bool, true, false, not, Option, Some, None, MatchOption, List, [], ◌∷◌, ◌++◌, length}
+use Rattle.std.specs.Prelude.{ℕ, ◌+◌, ◌^◌, ◌<◌, ◌≤◌, ◌≡◌, ◌||◌, ◌&&◌, ◌⊎◌, if◌then◌else◌, nat_eq, Bool, true, false, not, Option, Some, None, MatchOption, List, [], ◌∷◌, ◌++◌, length}
 use Rattle.dht_types.specs.Put.{put}
 use Rattle.dht_types.specs.Calls.{refusal_at_once}
-use Rattle.dht_types.specs.Gfid.{Entry, root, made}
-use Rattle.dht_types.specs.Tree.{Tree, first_tree, applied, Fits, Said, Do, says, answer_of}
+use Rattle.dht_types.specs.Gfid.{Entry, root, home, made}
+use Rattle.dht_types.specs.Tree.{Tree, IsDir, IsTree, first_tree, applied, Fits, Said, Do, says, answer_of}
 use Rattle.dht_types.specs.declared.identifiers.Gfid.{Gfid}
 use Rattle.dht_types.specs.declared.identifiers.CallNo.{CallNo}
 use Rattle.dht_types.specs.declared.identifiers.ClientNo.{ClientNo}
 use Rattle.dht_types.specs.declared.errors.Errno.{Errno}
-use Rattle.dht_types.specs.declared.errors.Errno.TheVariants.{Enoent, Enomem, Eexist, Einval, Enametoolong, Eisdir, Estale, Enotconn, Eio}
+use Rattle.dht_types.specs.declared.errors.Errno.TheVariants.{Enoent, Enomem, Eexist, Einval, Enametoolong, Enotdir, Eisdir, Enotempty, Estale, Enotconn, Eio}
 use Rattle.dht_types.specs.declared.calls.Call.{Call}
 use Rattle.dht_types.specs.declared.calls.Answer.{Answer}
 use Rattle.dht_types.specs.declared.calls.Answer.TheVariants.{File, Dir, Made, Done, Fault}
 use Rattle.dht_types.specs.declared.calls.TreeStep.{TreeStep}
-use Rattle.dht_types.specs.declared.calls.TreeStep.TheVariants.{AddFile, RemoveFile}
+use Rattle.dht_types.specs.declared.calls.TreeStep.TheVariants.{AddFile, AddDir, RemoveFile, RemoveDir}
 use Rattle.dht_types.specs.declared.lines.RequestKind.{RequestKind}
-use Rattle.dht_types.specs.declared.lines.RequestKind.TheVariants.{Lock, Create, Unlink}
+use Rattle.dht_types.specs.declared.lines.RequestKind.TheVariants.{Lock, Create, Unlink, MakeDir, DropDir}
 use Rattle.dht_types.specs.declared.lines.ReplyKind.{ReplyKind}
 use Rattle.dht_types.specs.declared.lines.ReplyKind.TheVariants.{Ok as Carried, Wait, Down, Failed, NoMemory}
 use Rattle.dht_types.specs.declared.lines.Line.{Line}
@@ -50,7 +50,7 @@ pub record Act : Type 0 where
   pub request : RequestKind
   pub reply : ReplyKind
 
--- the tree line that must come next: that of this call, for a request of this kind that this brick carried out
+-- the tree line that must come next, or may: that of this call, for a request of this kind that this brick carried out
 pub record Owed : Type 0 where
   pub call : CallNo
   pub client : ClientNo
@@ -73,18 +73,24 @@ pub record History : Type 0 where
   pub clean : Bool  -- no line tells of a brick that was down or out of memory, or of a death
   pub requests : ℕ  -- how many step and wait lines
   pub acts : ℕ → List Act  -- what each brick served, by its step and wait lines
-  pub changes : ℕ → List Entry  -- the slots of the tree lines under them
-  pub owed : Option Owed
+  pub changes : ℕ → List Entry  -- the slots of the tree lines under them that add or remove a file
+  pub dir_changes : ℕ → List Entry  -- and of those that add or remove a directory
+  pub owed : Option Owed  -- the tree line that must come next
+  pub allowed : Option Owed  -- the tree line that may come next: a copy of a directory is no step of the tree but at its home
 
 -- the gfid that a step makes; for one that makes none it is the root's, which no answer names
 abbrev pub made_in : TreeStep → Gfid
 made_in (AddFile d n f) = f
+made_in (AddDir d n g) = g
 made_in (RemoveFile d n) = root
+made_in (RemoveDir d n) = root
 
 -- the slot that a step changes
 abbrev pub slot_of : TreeStep → Entry
 slot_of (AddFile d n f) = (d, n)
+slot_of (AddDir d n g) = (d, n)
 slot_of (RemoveFile d n) = (d, n)
+slot_of (RemoveDir d n) = (d, n)
 
 -- the tree lines with one more, on this tree and at this line
 abbrev pub deeds_after : Tree → ℕ → Call Gfid → Option Deeds → TreeStep → Deeds
@@ -102,6 +108,12 @@ is_change Create r = is_carried r
 is_change Unlink r = is_carried r
 is_change q r = false
 
+-- the requests that change it where they are carried out by the home of the directory that they make or drop
+abbrev pub is_dir_change : RequestKind → ReplyKind → Bool
+is_dir_change MakeDir r = is_carried r
+is_dir_change DropDir r = is_carried r
+is_dir_change q r = false
+
 abbrev pub owed_if : Bool → Owed → Option Owed
 owed_if true o = Some o
 owed_if false o = None
@@ -110,6 +122,11 @@ owed_if false o = None
 abbrev pub owed_after : Line → Option Owed
 owed_after (Stepped k c b q r) = owed_if (is_change q r) (record { call = k; client = c; brick = b.0; request = q })
 owed_after line = None
+
+-- and the one that may come
+abbrev pub allowed_after : Line → Option Owed
+allowed_after (Stepped k c b q r) = owed_if (is_dir_change q r) (record { call = k; client = c; brick = b.0; request = q })
+allowed_after line = None
 
 -- the brick was down
 abbrev pub is_down : ReplyKind → Bool
@@ -151,10 +168,15 @@ abbrev pub did : Tree → ℕ → TreeStep → Option PendingCall → Option Pen
 did t line step None = None
 did t line step (Some r) = Some (record r { deeds = Some (deeds_after t line r.call r.deeds step) })
 
--- the history with a step of the tree, which is that of the request whose tree line was owed
-abbrev pub with_step : History → TreeStep → Option Owed → History
-with_step s step None = record s { tree = applied step s.tree }
-with_step s step (Some o) = record s {
+-- the history with a step of the tree, which is that of the request whose tree line was owed, or allowed
+abbrev pub with_step : History → TreeStep → (owed allowed : Option Owed) → History
+with_step s step None None = record s { tree = applied step s.tree }
+with_step s step None (Some o) = record s {
+  tree = applied step s.tree;
+  pending = put nat_eq s.pending o.client.0 (did s.tree (s.size + 1) step (s.pending o.client.0));
+  dir_changes = put nat_eq s.dir_changes o.brick (s.dir_changes o.brick ++ slot_of step ∷ []);
+}
+with_step s step (Some o) allowed = record s {
   tree = applied step s.tree;
   pending = put nat_eq s.pending o.client.0 (did s.tree (s.size + 1) step (s.pending o.client.0));
   changes = put nat_eq s.changes o.brick (s.changes o.brick ++ slot_of step ∷ []);
@@ -197,7 +219,7 @@ tells s (Waited k c b h) = record s {
   requests = s.requests + 1;
   acts = put nat_eq s.acts b.0 (acts_after (s.acts b.0) (record { client = c; call = k; request = Lock; reply = Wait }));
 }
-tells s (Changed k step) = with_step s step s.owed
+tells s (Changed k step) = with_step s step s.owed s.allowed
 tells s (Answered k c j a) = record s {
   pending = put nat_eq s.pending c.0 None;
   callers = without c.0 s.callers;
@@ -220,6 +242,7 @@ with_line s line = record (tells s line) {
   size = s.size + 1;
   past = put nat_eq s.past (s.size + 1) (tells s line).tree;
   owed = owed_after line;
+  allowed = allowed_after line;
 }
 
 -- before the first line: a volume's first run has number 1
@@ -240,7 +263,9 @@ start = record {
   requests = 0;
   acts = λ b. [];
   changes = λ b. [];
+  dir_changes = λ b. [];
   owed = None;
+  allowed = None;
 }
 
 abbrev pub with_lines : History → List Line → History
@@ -275,13 +300,29 @@ IsOwn run c k g = (home : ℕ) × (home < 2 ^ 16) × (g ≡ made run c k home)
 -- what a step makes is this call's own
 abbrev pub MakesOwn : ℕ → ClientNo → CallNo → TreeStep → Type 0
 MakesOwn run c k (AddFile d n f) = IsOwn run c k f
+MakesOwn run c k (AddDir d n g) = IsOwn run c k g
 MakesOwn run c k (RemoveFile d n) = Unit {0}
+MakesOwn run c k (RemoveDir d n) = Unit {0}
 
 -- the step is of the kind that a request stands for
 abbrev pub IsOf : RequestKind → TreeStep → Type 0
 IsOf Create (AddFile d n f) = Unit {0}
 IsOf Unlink (RemoveFile d n) = Unit {0}
+IsOf MakeDir (AddDir d n g) = Unit {0}
+IsOf DropDir (RemoveDir d n) = Unit {0}
 IsOf q step = ⊥
+
+-- a directory is made and removed where its home brick has its copy made and dropped
+abbrev pub IsAtHome : Tree → ℕ → TreeStep → Type 0
+IsAtHome t b (AddFile d n f) = Unit {0}
+IsAtHome t b (AddDir d n g) = b ≡ home g
+IsAtHome t b (RemoveFile d n) = Unit {0}
+IsAtHome t b (RemoveDir d n) = (g : Gfid) → t.names (d, n) ≡ Some (IsDir g) → b ≡ home g
+
+-- the tree line that stands next may be that of this request
+abbrev pub IsDue : (owed allowed : Option Owed) → Owed → Type 0
+IsDue (Some o) allowed w = o ≡ w
+IsDue None allowed w = allowed ≡ Some w
 
 -- this is what the tree says to the call at point j, where it says to do nothing; or the answer to the very steps that the call did, the first of them at line j
 abbrev pub Tells : History → Call Gfid → Option Deeds → ℕ → Answer → Type 0
@@ -296,7 +337,12 @@ pub record HasPoint (s : History) (r : PendingCall) (at : Option ℕ) (a : Answe
   pub before : point ≤ s.size
   pub tells : Tells s r.call r.deeds point a
 
--- the call was the only one in its span so far, and no line tells of a fault
+-- the call was the only one in its span so far
+pub record IsAlone (s : History) (r : PendingCall) : Type 0 where
+  pub first : r.alone ≡ true
+  pub last : r.number.0 ≡ s.calls
+
+-- and no line tells of a fault
 pub record IsUndisturbed (s : History) (r : PendingCall) : Type 0 where
   pub first : r.alone ≡ true
   pub last : r.number.0 ≡ s.calls
@@ -312,12 +358,15 @@ abbrev pub FaultHolds : History → PendingCall → Option ℕ → Errno → Typ
 FaultHolds s r at Enomem = at ≡ None
 FaultHolds s r at Enoent = HasPoint s r at (Fault Enoent)
 FaultHolds s r at Eexist = HasPoint s r at (Fault Eexist)
+FaultHolds s r at Enotdir = HasPoint s r at (Fault Enotdir)
 FaultHolds s r at Eisdir = HasPoint s r at (Fault Eisdir)
+FaultHolds s r at Enotempty = HasPoint s r at (Fault Enotempty)
 FaultHolds s r at Estale = HasPoint s r at (Fault Estale)
 FaultHolds s r at Enotconn = (at ≡ None) × (r.was_down ≡ true)
 FaultHolds s r at Eio = (at ≡ None) × (r.has_failed ≡ true)
 FaultHolds s r at Einval = IsAtOnce r at Einval
-FaultHolds s r at Enametoolong = IsAtOnce r at Enametoolong
+FaultHolds s r at Enametoolong =
+    IsAtOnce r at Enametoolong ⊎ HasPoint s r at (Fault Enametoolong)
 
 abbrev pub Answers : History → PendingCall → Option ℕ → Answer → Type 0
 Answers s r at (File f) = HasPoint s r at (File f)
@@ -342,7 +391,7 @@ Follows s (Called k c call) = (s.owed ≡ None) × (k.0 ≡ s.calls + 1) × (s.p
 Follows s (Stepped k c b q r) = (s.owed ≡ None) × ((o : PendingCall) × IsIn s c k o × (refusal_at_once o.call ≡ None))
 Follows s (Waited k c b h) = (s.owed ≡ None) × ((o : PendingCall) × IsIn s c k o × (refusal_at_once o.call ≡ None))
 -- a tree line stands directly under the line of its request; its step is the next of the call's steps, can be done, and makes a gfid of this call
-Follows s (Changed k step) = (w : Owed) × (s.owed ≡ Some w) × (w.call ≡ k) × IsOf w.request step × ((o : PendingCall) × IsIn s w.client k o × IsNext s.tree o.call o.deeds step × Fits step s.tree × MakesOwn s.run w.client k step)
+Follows s (Changed k step) = (w : Owed) × IsDue s.owed s.allowed w × (w.call ≡ k) × IsOf w.request step × IsAtHome s.tree w.brick step × ((o : PendingCall) × IsIn s w.client k o × IsNext s.tree o.call o.deeds step × Fits step s.tree × MakesOwn s.run w.client k step)
 -- an answer is what the tree says, or the refusal at once
 Follows s (Answered k c at a) = (s.owed ≡ None) × ((o : PendingCall) × IsIn s c k o × Answers s o at a × HeedsRefusal o a)
 Follows s (WentDown b) = s.owed ≡ None
@@ -359,3 +408,8 @@ LegalFrom s (line ∷ lines) = Follows s line × LegalFrom (with_line s line) li
 pub record Legal (lines : List Line) : Type 0 where
   pub from : LegalFrom start lines
   pub whole : (history_of lines).owed ≡ None
+
+-- the tree after each line is one
+pub record AreTrees (s : History) : Type 0 where
+  pub now : IsTree s.tree
+  pub past : (j : ℕ) → IsTree (s.past j)

@@ -8,6 +8,7 @@ pub mod AnswerLaws
 pub mod Tree
 pub mod Text
 pub mod Calls
+pub mod Counted
 pub mod Cost
 pub mod Entry
 pub mod Volume

@@ -14,10 +14,14 @@ pub enum Errno {
     Eexist,
     /// The name is empty, `.` or `..`, or has a `/` or a zero byte.
     Einval,
-    /// The name has more than 255 bytes.
+    /// The name has more than 255 bytes, or its directory is as deep as one may be.
     Enametoolong,
+    /// The name is a file's.
+    Enotdir,
     /// The name is a directory's.
     Eisdir,
+    /// The directory is not empty.
+    Enotempty,
     /// The directory is none of the tree.
     Estale,
     /// A brick was down.
@@ -36,7 +40,9 @@ pub fn errno_number(error: Errno) -> u16
         Errno::Eexist => 17,
         Errno::Einval => 22,
         Errno::Enametoolong => 36,
+        Errno::Enotdir => 20,
         Errno::Eisdir => 21,
+        Errno::Enotempty => 39,
         Errno::Estale => 116,
         Errno::Enotconn => 107,
         Errno::Eio => 5,
@@ -53,7 +59,9 @@ pub fn errno_word(error: Errno) -> &'static str
         Errno::Eexist => "eexist",
         Errno::Einval => "einval",
         Errno::Enametoolong => "enametoolong",
+        Errno::Enotdir => "enotdir",
         Errno::Eisdir => "eisdir",
+        Errno::Enotempty => "enotempty",
         Errno::Estale => "estale",
         Errno::Enotconn => "enotconn",
         Errno::Eio => "eio",

@@ -8,6 +8,7 @@ pub mod calls;
 pub mod errors;
 pub mod events;
 pub mod identifiers;
+pub mod layouts;
 pub mod lines;
 pub mod linktos;
 pub mod locks;

@@ -1,5 +1,8 @@
 //! The lines of a transcript.
 
+ghost use Rattle.std.specs.Prelude.{List};
+ghost use Rattle.dht_types.specs.History.{AreTrees, LegalFrom, history_of, start};
+
 use super::bytes::Bytes;
 use super::calls::{Answer, Call, TreeStep};
 use super::identifiers::{BrickNo, CallNo, ClientNo, Gfid};
@@ -194,3 +197,9 @@ pub enum DumpLine {
     /// The dump is whole.
     End,
 }
+
+/// Each tree of a legal transcript is one, as `specs/Tree.antt` says: this is a law for readers of the
+/// definitions, and does nothing.
+pub fn each_tree_is_one()
+    ensures { (lines : List Line) → LegalFrom start lines → AreTrees (history_of lines) }
+{}

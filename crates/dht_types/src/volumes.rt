@@ -311,6 +311,14 @@ impl Volume {
         self.names.len() as u16
     }
 
+    /// The weights of its bricks, in the bricks' order.
+    pub fn weights(&self) -> &Weights
+        ensures weights { result.now ≡ self.now.weights }
+        ensures valid { IsVolume self.now }
+    {
+        &self.weights
+    }
+
     /// The weight of a brick, if there is one of this number.
     pub fn weight(&self, brick: BrickNo) -> Option<u16>
         ensures weight { result ≡ slice_get self.now.weights brick.0 }

@@ -33,14 +33,14 @@ use Rattle.dht_section.specs.Disk.{Disk, ChangesOneBrick}
 use Rattle.dht_section.specs.Moves.{Guarantee, outcome_of}
 use Rattle.dht_section.specs.Permits.{Permitted}
 use Rattle.dht_section.specs.Scene.{Scene, Sound}
-use Rattle.dht_section.specs.Stages.{Served, MaySend, IsStable, GoesOn, EndsIn, answered, is_wait}
+use Rattle.dht_section.specs.Stages.{Served, MaySend, IsStable, GoesOn, EndsIn, LeavesWhole, call_answered, is_wait}
 use Rattle.dht_section.specs.declared.caller.Caller.{Ghosts as CallerGhosts}
 use Rattle.dht_invariant.specs.Laws.{TransitionLaws}
 use Rattle.dht_invariant.specs.Transition.{scene, Transition}
 use Rattle.dht_world.specs.Clients.{client, claim_at, claims_of, Works, ClientFits}
 use Rattle.dht_world.specs.Following.{IsStep, IsWait}
 use Rattle.dht_world.specs.Lines.{step_line, request_lines}
-use Rattle.dht_world.specs.World.{Summary, At}
+use Rattle.dht_world.specs.World.{Summary, At, HealsWhole}
 use Rattle.dht_world.specs.declared.places.Place.{Place}
 use Rattle.dht_world.specs.declared.places.Place.TheVariants.{Living}
 use Rattle.dht_world.proofs.AnsweredLaws.{answered_set}
@@ -48,8 +48,11 @@ use Rattle.dht_world.proofs.AtLaws.{at_by, own_set, idle_claims, busy_claims, re
 use Rattle.dht_world.proofs.BlockLaws.{Told}
 use Rattle.dht_world.proofs.BrickLaws.{get_set_other}
 use Rattle.dht_world.proofs.ClientLaws.{Happens, holders_call, claims_set, busy_is}
-use Rattle.dht_world.proofs.CountLaws.{Passes, passes_on, undisturbed_before, counted_ended, none_if}
+use Rattle.dht_world.proofs.CountLaws.{Passes, passes_on, undisturbed_before}
+use Rattle.dht_invariant.proofs.CountedLaws.{counted_ended, none_if}
+use Rattle.dht_world.proofs.HealedLaws.{heal_answered}
 use Rattle.dht_world.proofs.LineLaws.{in_time_append}
+use Rattle.dht_world.proofs.NotedLaws.{Extends, extends_served, noted_append}
 use Rattle.dht_world.proofs.RefusalLaws.{heeds_none}
 use Rattle.dht_world.proofs.StepLaws.{lines_there, waits_is_lock, never_waits, held_by, wait_is_up, down_as_told, sound_as_told, unlock_kind, unlock_is_carried}
 use Rattle.dht_world.proofs.WentLaws.{Sent, Went, went, and_first}
@@ -124,7 +127,7 @@ module _ {C : Type 0} (g : CallerGhosts C) (laws : TransitionLaws) (stable : (x 
         absurd (never_waits (replay_names (length before_lines.weights)) (client c) mine.number lock.key lock.mode (d.brick a.brick.0) holder
         (λ other ne. none_if ((d.brick a.brick.0).locks lock.key other) (λ m held. (
         let some : is_some (before_lines.pending other) ≡ true = holders_call g d js places ws n before_lines h.fit a.brick.0 lock.key other m may_send.there held in
-        let none : before_lines.pending other ≡ None = h.fit.counted.alone c other mine works.runs u.first u.last ne in
+        let none : before_lines.pending other ≡ None = h.fit.kept.counts.alone c other mine works.runs u.first u.last ne in
         let z : false ≡ true = sym (ap is_some none) ∙ some in
         cc)))
         (subst (λ (q : Request). row (replay_names (length before_lines.weights)) (client c) mine.number q (d.brick a.brick.0) ≡ Await holder) lock.is served.0))
@@ -176,7 +179,7 @@ module _ {C : Type 0} (g : CallerGhosts C) (laws : TransitionLaws) (stable : (x 
         let some = goes_on x busy in
         record {
           logged = h.fit.logged;
-          counted = h.fit.counted;
+          counted = h.fit.kept.counts;
           owed = h.legal.whole;
           runs = works.runs;
           number = works.number;
@@ -199,6 +202,9 @@ module _ {C : Type 0} (g : CallerGhosts C) (laws : TransitionLaws) (stable : (x 
 
     pub gone : Went d before_lines claims (client c) mine a r e ks (request_lines k (client c) a r) after_lines
     gone = went d js before_lines claims (client c) mine k a r e ks sent
+
+    grown : Extends js ks
+    grown = extends_served js ks a.brick.0 r (entry_of (client c) k a.request r) v.noted
 
     pub then_mine : PendingCall
     then_mine = gone.mine_then
@@ -249,12 +255,11 @@ module _ {C : Type 0} (g : CallerGhosts C) (laws : TransitionLaws) (stable : (x 
         let set : put nat_eq claims c (g.stage y).claims ≡ claims_of g (slice_set places c new) =
         ap (put nat_eq claims c) (sym (busy_claims g laws stable y k busy_then) ∙ ap (λ (z : Place C). claim_at g (Some z)) (sym is)) ∙ claims_set g places c new within in
         let fits : ClientFits g d before_lines claims c (Some (Living x k)) = subst (ClientFits g d before_lines claims c) here (h.fit.each c) in
-        at_by g laws stable c d e js ks places (slice_set places c new) ws n summary_then past (request_lines k (client c) a r) h w.legal w.owed w.in_time (record {
+        at_by g laws stable c d e js ks places (slice_set places c new) ws n summary_then past (request_lines k (client c) a r) h w.legal w.owed w.in_time grown w.noted (record {
           transition = subst (λ (q : ℕ → Claim). Transition c d before_lines claims e after_lines q) set (claimed (g.stage y).claims goes.claims);
           passes = w.passes;
           logged = w.logged;
           summary = record { run = w.same_run ∙ summary.run; calls = omega arith; lines = omega arith; requests = omega arith; answers = w.same_answered ∙ summary.answers; places = summary.places; fewer = omega arith; less = (let more = lines_there k (client c) a r in omega arith) };
-          counted = w.counted;
           many = length-set places c new;
           same = λ i ne. get_set_other places c new i ne;
           own = own_set g laws stable e after_lines places c new within (subst (λ (z : Place C). ClientFits g e after_lines (claims_of g (slice_set places c new)) c (Some z)) (sym is) (
@@ -267,7 +272,7 @@ module _ {C : Type 0} (g : CallerGhosts C) (laws : TransitionLaws) (stable : (x 
               named = ap (λ (q : Call Gfid). refusal_at_once q) w.same_call ∙ works.named;
               begun = w.begun;
               knows = stable y next_scene (scene e after_lines (claims_of g (slice_set places c new)) (client c) then_mine) goes.knows (rely_claimed e after_lines claims (claims_of g (slice_set places c new)) c then_mine);
-              in_time = λ u. (let before = undisturbed_before c before_lines after_lines mine then_mine w.passes (h.fit.counted.numbered c mine works.runs) (ap (λ (q : CallNo). q.0) w.moved.mine.number) w.moved.mine.alone u in
+              in_time = λ u. (let before = undisturbed_before c before_lines after_lines mine then_mine w.passes (h.fit.kept.counts.numbered c mine works.runs) (ap (λ (q : CallNo). q.0) w.moved.mine.number) w.moved.mine.alone u in
                   let bound = works.in_time before in
                   let nearer = (goes.nearer u).0 (calm_by r refl before) in
                   let steps = w.steps in
@@ -285,14 +290,14 @@ module _ {C : Type 0} (g : CallerGhosts C) (laws : TransitionLaws) (stable : (x 
     unfolding mine works
     call_there =
         let number : mine.number.0 ≡ k.0 = ap (λ (q : CallNo). q.0) works.number in
-        let some = h.fit.counted.from_one c mine works.runs in
-        let given = h.fit.counted.numbered c mine works.runs in
+        let some = h.fit.kept.counts.from_one c mine works.runs in
+        let given = h.fit.kept.counts.numbered c mine works.runs in
         let calls = h.fit.summary.calls in
         let room = h.fit.summary.places in
         (omega arith, omega arith)
 
     -- the call answers
-    pub at_answered : (y : C) (new : Place C) (f : Finish) → new ≡ Living y k → g.number y ≡ g.number x → g.is_busy y ≡ false → EndsIn (g.stage x) (answered f) next_scene → At g e ks (slice_set places c new) ws (summary_ended f) (past ++ (request_lines k (client c) a r ++ Answered k (client c) f.at f.answer ∷ []))
+    pub at_answered : (y : C) (new : Place C) (f : Finish) → new ≡ Living y k → g.number y ≡ g.number x → g.is_busy y ≡ false → EndsIn (g.stage x) (call_answered f) next_scene → At g e ks (slice_set places c new) ws (summary_ended f) (past ++ (request_lines k (client c) a r ++ Answered k (client c) f.at f.answer ∷ []))
     unfolding now mine then_mine next_scene
     at_answered y new f is same idle ends =
         let w = gone in
@@ -322,6 +327,7 @@ module _ {C : Type 0} (g : CallerGhosts C) (laws : TransitionLaws) (stable : (x 
           weights = refl;
           run = refl;
           calls = omega arith;
+          counts = λ q. counted_ended after_lines u c q refl refl refl;
           pending = λ i ne. put_other nat_eq exact_nat after_lines.pending c None i ne;
           own = λ o q fresh. absurd (let z : None ≡ Some o = sym (put_same nat_eq exact_nat after_lines.pending c None) ∙ q in cc);
         }) in
@@ -330,7 +336,7 @@ module _ {C : Type 0} (g : CallerGhosts C) (laws : TransitionLaws) (stable : (x 
         let happens : Happens g c d e ks before_lines u places (slice_set places c new) (summary_ended f) = record {
           transition = subst (λ (q : ℕ → Claim). Transition c d before_lines claims e u q) set both;
           passes = passes_on c before_lines after_lines u w.passes last;
-          logged = record { steps = w.logged.steps; slots = w.logged.slots };
+          logged = record { steps = w.logged.steps; slots = w.logged.slots; dirs = w.logged.dirs };
           summary = record {
             run = w.same_run ∙ summary.run;
             calls = omega arith;
@@ -341,7 +347,6 @@ module _ {C : Type 0} (g : CallerGhosts C) (laws : TransitionLaws) (stable : (x 
             fewer = omega arith;
             less = omega arith;
           };
-          counted = counted_ended after_lines u c w.counted refl refl refl;
           many = length-set places c new;
           same = λ i ne. get_set_other places c new i ne;
           own = own_set g laws stable e u places c new within (subst (λ (z : Place C). ClientFits g e u (claims_of g (slice_set places c new)) c (Some z)) (sym is) (
@@ -351,7 +356,13 @@ module _ {C : Type 0} (g : CallerGhosts C) (laws : TransitionLaws) (stable : (x 
           ));
         } in
         at_by g laws stable c d e js ks places (slice_set places c new) ws n (summary_ended f) past (xs ++ end ∷ []) h
-        (legal_append before_lines xs (end ∷ []) w.legal ((w.owed, (then_mine, record { runs = w.runs; number = number_then }, ends.earned, heeds_none then_mine f.answer (ap (λ (q : Call Gfid). refusal_at_once q) w.same_call ∙ works.named))), tt))
+        (legal_append before_lines xs (end ∷ []) w.legal ((w.owed, (then_mine, record { runs = w.runs; number = number_then }, ends.earned.0, heeds_none then_mine f.answer (ap (λ (q : Call Gfid). refusal_at_once q) w.same_call ∙ works.named))), tt))
         (ap (λ (q : History). q.owed) all)
         (in_time_append before_lines xs (end ∷ []) w.in_time (tt, tt))
+        grown (noted_append ks before_lines xs (end ∷ []) w.noted (tt, tt))
         (subst (λ (q : History). Happens g c d e ks before_lines q places (slice_set places c new) (summary_ended f)) (sym all) happens)
+
+    -- and where it was a heal that was alone, its directory is whole then
+    pub healed_then : (f : Finish) → LeavesWhole f next_scene → HealsWhole e (past ++ (request_lines k (client c) a r ++ Answered k (client c) f.at f.answer ∷ []))
+    unfolding then_mine next_scene
+    healed_then f whole = heal_answered e past (request_lines k (client c) a r) k (client c) f then_mine gone.runs whole

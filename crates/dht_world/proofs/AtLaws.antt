@@ -5,6 +5,7 @@ use Rattle.std.proofs.Math.ListN.{length-set}
 use Rattle.dht_types.proofs.PutLaws.{put_same, put_other, exact_nat}
 use Rattle.dht_types.specs.History.{History, PendingCall, Follows, LegalFrom, tells, with_line, with_lines, start, history_of}
 use Rattle.dht_types.proofs.HistoryLaws.{lines_append, lines_more}
+use Rattle.dht_types.specs.Gfid.{Entry}
 use Rattle.dht_types.specs.declared.identifiers.BrickNo.{BrickNo}
 use Rattle.dht_types.specs.declared.identifiers.CallNo.{CallNo}
 use Rattle.dht_types.specs.declared.lines.Cause.{Cause}
@@ -19,15 +20,18 @@ use Rattle.dht_section.specs.Stages.{IsStable}
 use Rattle.dht_section.specs.declared.caller.Caller.{Ghosts as CallerGhosts}
 use Rattle.dht_invariant.specs.Laws.{TransitionLaws}
 use Rattle.dht_invariant.specs.Transition.{scene, Transition, FreesClient}
-use Rattle.dht_world.specs.Clients.{client, claim_at, claims_of, ClientFits, IsListed}
+use Rattle.dht_types.specs.Counted.{IsListed, CallsCounted}
+use Rattle.dht_world.specs.Bricks.{AreNoted, IsNoted, IsSublist, copied_slots}
+use Rattle.dht_world.specs.Clients.{client, claim_at, claims_of, ClientFits}
 use Rattle.dht_world.specs.Following.{InTime, InTimeFrom}
 use Rattle.dht_world.specs.World.{Summary, Fit, At}
 use Rattle.dht_world.specs.declared.places.Place.{Place}
 use Rattle.dht_world.specs.declared.places.Place.TheVariants.{Living, Dead}
 use Rattle.dht_world.proofs.BrickLaws.{get_set_same, get_set_other, none_at}
 use Rattle.dht_world.proofs.ClientLaws.{Happens, fit_after, claims_set}
-use Rattle.dht_world.proofs.CountLaws.{counted_ended, not_none}
+use Rattle.dht_invariant.proofs.CountedLaws.{not_none}
 use Rattle.dht_world.proofs.LineLaws.{in_time_append, legal_lines}
+use Rattle.dht_world.proofs.NotedLaws.{Extends, noted_on, noted_append}
 
 pub grows_refl : (h : NameShape) → Grows h h
 grows_refl (Folder g on) = (on, refl, λ b e. e)
@@ -49,6 +53,10 @@ rely_claimed d s p q c r = record {
   dirs = λ g b x h e. (x, e, record { place = refl; depth = refl; hashes = refl });
   added = λ g b x h n e. absurd (not_none _ x n e);
   known = λ g h e. e;
+  both = λ e g on n a st. st;
+  planned = λ g h. h;
+  made = λ g x h. h;
+  still = λ u. record { before = u; tree = refl; stores = λ b. refl };
   used = λ f h. h;
   sealed = λ f h. h;
   nameless = λ f h. h;
@@ -70,16 +78,17 @@ pub record IsStill (s : History) (x : Line) : Type 0 where
   pub requests : (tells s x).requests ≡ s.requests
   pub acts : (tells s x).acts ≡ s.acts
   pub changes : (tells s x).changes ≡ s.changes
+  pub dir_changes : (tells s x).dir_changes ≡ s.dir_changes
   pub answered : (tells s x).answered ≡ s.answered
 
 pub still_refused : (s : History) (n : ℕ) (cause : Cause) → IsStill s (Refused n cause)
-still_refused s n cause = record { tree = refl; weights = refl; run = refl; calls = refl; pending = refl; callers = refl; dead = refl; down = λ b l. refl; clean = λ q. q; requests = refl; acts = refl; changes = refl; answered = refl }
+still_refused s n cause = record { tree = refl; weights = refl; run = refl; calls = refl; pending = refl; callers = refl; dead = refl; down = λ b l. refl; clean = λ q. q; requests = refl; acts = refl; changes = refl; dir_changes = refl; answered = refl }
 
 pub still_down : (s : History) (b : BrickNo) → b.0 < length s.weights → IsStill s (WentDown b)
-still_down s b there = record { tree = refl; weights = refl; run = refl; calls = refl; pending = refl; callers = refl; dead = refl; down = λ i l. put_other nat_eq exact_nat s.down b.0 true i (λ e. omega arith); clean = λ q. absurd (let z : false ≡ true = q in cc); requests = refl; acts = refl; changes = refl; answered = refl }
+still_down s b there = record { tree = refl; weights = refl; run = refl; calls = refl; pending = refl; callers = refl; dead = refl; down = λ i l. put_other nat_eq exact_nat s.down b.0 true i (λ e. omega arith); clean = λ q. absurd (let z : false ≡ true = q in cc); requests = refl; acts = refl; changes = refl; dir_changes = refl; answered = refl }
 
 pub still_up : (s : History) (b : BrickNo) → b.0 < length s.weights → IsStill s (CameUp b)
-still_up s b there = record { tree = refl; weights = refl; run = refl; calls = refl; pending = refl; callers = refl; dead = refl; down = λ i l. put_other nat_eq exact_nat s.down b.0 false i (λ e. omega arith); clean = λ q. q; requests = refl; acts = refl; changes = refl; answered = refl }
+still_up s b there = record { tree = refl; weights = refl; run = refl; calls = refl; pending = refl; callers = refl; dead = refl; down = λ i l. put_other nat_eq exact_nat s.down b.0 false i (λ e. omega arith); clean = λ q. q; requests = refl; acts = refl; changes = refl; dir_changes = refl; answered = refl }
 
 -- which bricks are down after a line more
 pub down_after : (past : List Line) (x : Line) (down : ℕ → Bool) → (tells (history_of past) x).down ≡ down → (history_of (past ++ x ∷ [])).down ≡ down
@@ -87,10 +96,11 @@ down_after past x down e = ap (λ (s : History). s.down) (lines_more start past 
 
 module _ {C : Type 0} (g : CallerGhosts C) (laws : TransitionLaws) (stable : (x : C) → IsStable (g.stage x)) where
   -- lines that may come, after which the world fits
-  pub at_by : (c : ℕ) (d e : Disk) (js ks : ℕ → List JournalEntry) (places after : List (Place C)) (ws : List ℕ) (m n : Summary) (past lines : List Line) → At g d js places ws m past → LegalFrom (history_of past) lines → (with_lines (history_of past) lines).owed ≡ None → InTimeFrom (history_of past) lines → Happens g c d e ks (history_of past) (with_lines (history_of past) lines) places after n → At g e ks after ws n (past ++ lines)
-  at_by c d e js ks places after ws m n past lines h legal owed in_time happens = record {
+  pub at_by : (c : ℕ) (d e : Disk) (js ks : ℕ → List JournalEntry) (places after : List (Place C)) (ws : List ℕ) (m n : Summary) (past lines : List Line) → At g d js places ws m past → LegalFrom (history_of past) lines → (with_lines (history_of past) lines).owed ≡ None → InTimeFrom (history_of past) lines → Extends js ks → AreNoted ks (history_of past) lines → Happens g c d e ks (history_of past) (with_lines (history_of past) lines) places after n → At g e ks after ws n (past ++ lines)
+  at_by c d e js ks places after ws m n past lines h legal owed in_time grown noted happens = record {
     legal = legal_lines past lines h.legal legal owed;
     in_time = in_time_append start past lines h.in_time in_time;
+    noted = noted_append ks start past lines (noted_on js ks start past grown h.noted) noted;
     fit = subst (λ (x : History). Fit g e ks after ws n x) (sym (lines_append start past lines)) (fit_after g stable c d e js ks (history_of past) (with_lines (history_of past) lines) places after ws m n h.fit happens);
   }
 
@@ -103,44 +113,45 @@ module _ {C : Type 0} (g : CallerGhosts C) (laws : TransitionLaws) (stable : (x 
       let fewer = summary.fewer in
       let less = summary.less in
       let many = fit.many in
+      let counts : CallsCounted s → CallsCounted (with_line s x) = (λ q. record {
+        listed = λ c r e. subst (IsListed c) (sym h.callers) (q.listed c r (sym (ap (λ (f : ℕ → Option PendingCall). f c) h.pending) ∙ e));
+        calling = λ c l. ap (λ (f : ℕ → Option PendingCall). is_some (f c)) h.pending ∙ q.calling c (subst (IsListed c) h.callers l);
+        numbered = λ c r e. (let l = q.numbered c r (sym (ap (λ (f : ℕ → Option PendingCall). f c) h.pending) ∙ e) in omega arith);
+        from_one = λ c r e. q.from_one c r (sym (ap (λ (f : ℕ → Option PendingCall). f c) h.pending) ∙ e);
+        alone = λ c w r e first last ne. ap (λ (f : ℕ → Option PendingCall). f w) h.pending ∙ q.alone c w r (sym (ap (λ (f : ℕ → Option PendingCall). f c) h.pending) ∙ e) first (last ∙ h.calls) ne;
+      }) in
       record {
         transition = laws.line 64 d s (claims_of g places) x fit.kept fit.early (record {
           tree = h.tree;
           weights = h.weights;
           run = h.run;
           calls = omega arith;
+          counts = counts;
           pending = λ w ne. ap (λ (f : ℕ → Option PendingCall). f w) h.pending;
           own = λ r e none. inl (record { before = r; was_it = sym (ap (λ (f : ℕ → Option PendingCall). f 64) h.pending) ∙ e; number = refl; fresh = none });
         });
         passes = record { weights = h.weights; calls = omega arith; clean = h.clean; dead = λ w ne. ap (λ (f : ℕ → Bool). f w) h.dead; down = h.down };
-        logged = record { steps = λ b. fit.logged.steps b ∙ sym (ap (λ f. f b) h.acts); slots = λ b. fit.logged.slots b ∙ sym (ap (λ f. f b) h.changes) };
+        logged = record { steps = λ b. fit.logged.steps b ∙ sym (ap (λ f. f b) h.acts); slots = λ b. fit.logged.slots b ∙ sym (ap (λ f. f b) h.changes); dirs = λ b. subst (λ (f : ℕ → List Entry). IsSublist (f b) (copied_slots (js b))) (sym h.dir_changes) (fit.logged.dirs b) };
         summary = record { run = h.run ∙ summary.run; calls = h.calls ∙ summary.calls; lines = omega arith; requests = h.requests ∙ summary.requests; answers = h.answered ∙ summary.answers; places = summary.places; fewer = omega arith; less = omega arith };
-        counted = record {
-          listed = λ c r e. subst (IsListed c) (sym h.callers) (fit.counted.listed c r (sym (ap (λ (f : ℕ → Option PendingCall). f c) h.pending) ∙ e));
-          calling = λ c l. ap (λ (f : ℕ → Option PendingCall). is_some (f c)) h.pending ∙ fit.counted.calling c (subst (IsListed c) h.callers l);
-          numbered = λ c r e. (let l = fit.counted.numbered c r (sym (ap (λ (f : ℕ → Option PendingCall). f c) h.pending) ∙ e) in omega arith);
-          from_one = λ c r e. fit.counted.from_one c r (sym (ap (λ (f : ℕ → Option PendingCall). f c) h.pending) ∙ e);
-          alone = λ c w r e first last ne. ap (λ (f : ℕ → Option PendingCall). f w) h.pending ∙ fit.counted.alone c w r (sym (ap (λ (f : ℕ → Option PendingCall). f c) h.pending) ∙ e) first (last ∙ h.calls) ne;
-        };
         many = refl;
         same = λ w ne. refl;
         own = subst (λ (o : Option (Place C)). ClientFits g d (with_line s x) (claims_of g places) 64 o) (sym (none_at places 64 (omega arith)))
             (ap (λ (f : ℕ → Option PendingCall). f 64) h.pending ∙ subst (ClientFits g d s (claims_of g places) 64) (none_at places 64 (omega arith)) (fit.each 64));
       }
 
-  pub at_still : (d : Disk) (js : ℕ → List JournalEntry) (places : List (Place C)) (ws : List ℕ) (n : Summary) (past : List Line) (x : Line) → At g d js places ws n past → IsStill (history_of past) x → Follows (history_of past) x → (with_line (history_of past) x).owed ≡ None → InTime (history_of past) x → At g d js places ws (record n { lines = n.lines + 1 }) (past ++ x ∷ [])
-  at_still d js places ws n past x h still follows owed in_time =
-      at_by 64 d d js js places places ws n (record n { lines = n.lines + 1 }) past (x ∷ []) h (follows, tt) owed (in_time, tt) (still_happens d js places ws n (history_of past) x h.fit still)
+  pub at_still : (d : Disk) (js : ℕ → List JournalEntry) (places : List (Place C)) (ws : List ℕ) (n : Summary) (past : List Line) (x : Line) → At g d js places ws n past → IsStill (history_of past) x → Follows (history_of past) x → (with_line (history_of past) x).owed ≡ None → InTime (history_of past) x → IsNoted js (history_of past) x → At g d js places ws (record n { lines = n.lines + 1 }) (past ++ x ∷ [])
+  at_still d js places ws n past x h still follows owed in_time noted =
+      at_by 64 d d js js places places ws n (record n { lines = n.lines + 1 }) past (x ∷ []) h (follows, tt) owed (in_time, tt) (λ b i e q. q) (noted, tt) (still_happens d js places ws n (history_of past) x h.fit still)
 
   -- an event that was refused
   pub at_refused : (d : Disk) (js : ℕ → List JournalEntry) (places : List (Place C)) (ws : List ℕ) (n : Summary) (past : List Line) (line : ℕ) (cause : Cause) → At g d js places ws n past → At g d js places ws (record n { lines = n.lines + 1 }) (past ++ Refused line cause ∷ [])
-  at_refused d js places ws n past line cause h = at_still d js places ws n past (Refused line cause) h (still_refused (history_of past) line cause) h.legal.whole refl tt
+  at_refused d js places ws n past line cause h = at_still d js places ws n past (Refused line cause) h (still_refused (history_of past) line cause) h.legal.whole refl tt tt
 
   pub at_down : (d : Disk) (js : ℕ → List JournalEntry) (places : List (Place C)) (ws : List ℕ) (n : Summary) (past : List Line) (b : BrickNo) → b.0 < length (history_of past).weights → At g d js places ws n past → At g d js places ws (record n { lines = n.lines + 1 }) (past ++ WentDown b ∷ [])
-  at_down d js places ws n past b there h = at_still d js places ws n past (WentDown b) h (still_down (history_of past) b there) h.legal.whole refl tt
+  at_down d js places ws n past b there h = at_still d js places ws n past (WentDown b) h (still_down (history_of past) b there) h.legal.whole refl tt tt
 
   pub at_up : (d : Disk) (js : ℕ → List JournalEntry) (places : List (Place C)) (ws : List ℕ) (n : Summary) (past : List Line) (b : BrickNo) → b.0 < length (history_of past).weights → At g d js places ws n past → At g d js places ws (record n { lines = n.lines + 1 }) (past ++ CameUp b ∷ [])
-  at_up d js places ws n past b there h = at_still d js places ws n past (CameUp b) h (still_up (history_of past) b there) h.legal.whole refl tt
+  at_up d js places ws n past b there h = at_still d js places ws n past (CameUp b) h (still_up (history_of past) b there) h.legal.whole refl tt tt
 
   -- what is set at a client's place
   pub own_set : (e : Disk) (t : History) (places : List (Place C)) (c : ℕ) (k : Place C) → c < length places → ClientFits g e t (claims_of g (slice_set places c k)) c (Some k) → ClientFits g e t (claims_of g (slice_set places c k)) c (slice_get (slice_set places c k) c)
@@ -158,12 +169,11 @@ module _ {C : Type 0} (g : CallerGhosts C) (laws : TransitionLaws) (stable : (x 
       let less = summary.less in
       let many = fit.many in
       let within : c < length places = omega arith in
-      at_by c d e js js places (slice_set places c Dead) ws n (record n { lines = n.lines + 1 }) past (Died (client c) ∷ []) h ((h.legal.whole, living), tt) refl (tt, tt) (record {
+      at_by c d e js js places (slice_set places c Dead) ws n (record n { lines = n.lines + 1 }) past (Died (client c) ∷ []) h ((h.legal.whole, living), tt) refl (tt, tt) (λ b i e q. q) (tt, tt) (record {
         transition = subst (λ (q : ℕ → Claim). Transition c d s (claims_of g places) e t q) (claims_set g places c Dead within) (laws.death (client c) d e s (claims_of g places) fit.kept fit.early frees);
         passes = record { weights = refl; calls = omega arith; clean = λ q. absurd (let z : false ≡ true = q in cc); dead = λ w ne. put_other nat_eq exact_nat s.dead c true w ne; down = λ b l. refl };
-        logged = record { steps = fit.logged.steps; slots = fit.logged.slots };
+        logged = record { steps = fit.logged.steps; slots = fit.logged.slots; dirs = fit.logged.dirs };
         summary = record { run = summary.run; calls = summary.calls; lines = omega arith; requests = summary.requests; answers = summary.answers; places = summary.places; fewer = omega arith; less = omega arith };
-        counted = counted_ended s t c fit.counted refl refl refl;
         many = length-set places c Dead;
         same = λ w ne. get_set_other places c Dead w ne;
         own = own_set e t places c Dead within (put_same nat_eq exact_nat s.dead c true, put_same nat_eq exact_nat s.pending c None);

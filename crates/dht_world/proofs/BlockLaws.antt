@@ -66,10 +66,10 @@ on_by s n c mine k a r (Wait holder) er is h = subst (Block s n (event.Step c)) 
 })
 on_by s n c mine k a r x er is h = subst (Block s n (event.Step c)) (sym (lines_are k (client c) a r (ap is_wait er))) (record {
   first = step_line k (client c) a r;
-  more = tree_lines k (step_of a.request r);
+  more = tree_lines k (step_of a.brick.0 a.request r);
   all = refl;
   is_head = head_accepted s n (event.Step c) _ is (mine, h.runs, inl (h.step (ap is_wait er)));
-  is_under = under_on k (client c) (step_of a.request r);
+  is_under = under_on k (client c) (step_of a.brick.0 a.request r);
 })
 
 -- a step, after which the call goes on
@@ -86,10 +86,10 @@ answered_by s n c mine k a r y (Wait holder) er is h = subst (λ (xs : List Line
 })
 answered_by s n c mine k a r y x er is h = subst (λ (xs : List Line). Block s n (event.Step c) (xs ++ Answered k (client c) y.at y.answer ∷ [])) (sym (lines_are k (client c) a r (ap is_wait er))) (record {
   first = step_line k (client c) a r;
-  more = tree_lines k (step_of a.request r) ++ Answered k (client c) y.at y.answer ∷ [];
+  more = tree_lines k (step_of a.brick.0 a.request r) ++ Answered k (client c) y.at y.answer ∷ [];
   all = refl;
   is_head = head_accepted s n (event.Step c) _ is (mine, h.runs, inl (h.step (ap is_wait er)));
-  is_under = under_answered k (client c) (step_of a.request r) y;
+  is_under = under_answered k (client c) (step_of a.brick.0 a.request r) y;
 })
 
 -- a step, after which the call answers

@@ -6,7 +6,10 @@ use Rattle.std.proofs.lemmas.Option.{slice_get_read}
 use Rattle.dht_types.specs.Put.{put}
 use Rattle.dht_types.proofs.VolumeLemmas.{length-replay_names}
 use Rattle.dht_types.proofs.PutLaws.{put_elim, put_same, put_other, exact_nat}
+use Rattle.dht_types.specs.Gfid.{Entry}
+use Rattle.dht_types.specs.Tree.{Descent, IsTree, of_root}
 use Rattle.dht_types.specs.declared.identifiers.ClientNo.{ClientNo}
+use Rattle.dht_types.specs.declared.identifiers.Gfid.{Gfid}
 use Rattle.dht_types.specs.declared.identifiers.CallNo.{CallNo}
 use Rattle.dht_types.specs.Volume.{VolumeInfo, replay_names}
 use Rattle.dht_brick.specs.Bricks.{BrickState, ServesRequest, ServesOrFails, is_unreachable, unless_down}
@@ -14,17 +17,19 @@ use Rattle.dht_brick.specs.Contents.{Contents}
 use Rattle.dht_brick.specs.Named.{entry_of}
 use Rattle.dht_brick.specs.Events.{freed}
 use Rattle.dht_brick.specs.Rows.{row}
-use Rattle.dht_brick.specs.Within.{MayBeSent}
+use Rattle.dht_brick.specs.Within.{MayBeMade, MayBeSent}
 use Rattle.dht_brick.specs.declared.journal.JournalEntry.{JournalEntry}
 use Rattle.dht_brick.specs.declared.requests.FileRequest.TheVariants.{Drop}
-use Rattle.dht_brick.specs.declared.requests.NameRequest.TheVariants.{Look, Dirinfo, Create, MakeLinkto, DropLinkto, Unlink}
+use Rattle.dht_brick.specs.declared.requests.NameRequest.TheVariants.{Look, Dirinfo, SetLayout, MakeDir, DropDir, Create, MakeLinkto, DropLinkto, Unlink}
 use Rattle.dht_brick.specs.declared.requests.Request.{Request}
 use Rattle.dht_brick.specs.declared.requests.Request.TheVariants.{Lock, Unlock, Seal, OnNames, OnFile}
 use Rattle.dht_brick.specs.declared.replies.Reply.{Reply}
 use Rattle.dht_brick.specs.declared.replies.Reply.TheVariants.{Down, Failed}
 use Rattle.dht_section.specs.declared.machine.Ask.{Ask}
-use Rattle.dht_section.specs.Permits.{May}
+use Rattle.dht_section.specs.Permits.{May, Changes}
+use Rattle.dht_section.specs.Invariant.Used.{ByDir}
 use Rattle.dht_section.specs.Scene.{Scene}
+use Rattle.dht_section.specs.Shapes.{NameFits}
 use Rattle.dht_invariant.specs.Transition.{FreesClient}
 use Rattle.dht_world.proofs.LineLaws.{nat_cases}
 use Rattle.dht_world.specs.Bricks.{nothing, disk_of, journals_of, contents_at, journal_at, IsReady, ReadyAt, AreReady, volume_of, without_client, remounted_in, SomeBecame, ServedAt}
@@ -345,21 +350,42 @@ up_disk_at state bricks b old new v l was h = shows_disk state bricks b old new 
 pub up_journals_at : {B : Type 0} (state : B → BrickState) (bricks : List B) (b : ℕ) (old new : B) (v : Bool) → b < length bricks → old ≡ get_or bricks b old → state new ≡ record (state old) { is_up = v } → journals_of state (slice_set bricks b new) ≡ journals_of state bricks
 up_journals_at state bricks b old new v l was h = shows_journals state bricks b old new l was (ap (λ (s : BrickState). s.journal) h)
 
+-- a directory of which a copy may be made is not the root, and its home is a brick
+may_be_made : (s : Scene) (b : ℕ) (d : Gfid) (n : List ℕ) (g : Gfid) (depth : ℕ) (value : Option (List ℕ)) → IsTree s.history.tree → b < s.disk.count → Changes s b (MakeDir d n g depth value) → MayBeMade s.disk.count g
+may_be_made s b d n g depth value tree there m = (
+  elim m.takes [
+    | inl q ↦ subst (λ (i : ℕ). i < s.disk.count) q.1 there
+    | inr q ↦ (subst (NameFits s.disk.count) q.1 m.stands.fits).0
+  ],
+  λ e. elim m.also.0 [
+    | inl q ↦ q.4 (ByDir (ap s.history.tree.dirs e ∙ tree.rooted.0))
+    | inr q ↦ (let z : Some of_root ≡ Some (record { depth = depth; place = Some (d, n) }) = sym (ap s.history.tree.descents e ∙ tree.rooted.1) ∙ q.1 in
+        let y : None ≡ Some (d, n) = ap place_in_some z in cc)
+  ],
+)
+  where
+    place_in_some : Option Descent → Option Entry
+    place_in_some None = None
+    place_in_some (Some x) = x.place
+
 -- what may be asked may be sent
-pub may_be_sent : (s : Scene) (b count : ℕ) (q : Request) → May s b q → MayBeSent count q
-may_be_sent s b count (Lock key mode) h = tt
-may_be_sent s b count (Unlock key) h = tt
-may_be_sent s b count (OnNames (Look d n)) h = tt
-may_be_sent s b count (OnNames (Dirinfo d)) h = tt
-may_be_sent s b count (OnNames (Create d n f)) h = tt
-may_be_sent s b count (OnNames (MakeLinkto d n value)) h = h.1.also.0
-may_be_sent s b count (OnNames (DropLinkto d n)) h = tt
-may_be_sent s b count (OnNames (Unlink d n f)) h = tt
-may_be_sent s b count (OnNames q) h = absurd h.0
-may_be_sent s b count (OnFile (Drop f)) h = tt
-may_be_sent s b count (OnFile q) h = absurd h.0
-may_be_sent s b count (Seal f) h = tt
-may_be_sent s b count q h = absurd h
+pub may_be_sent : (s : Scene) (b : ℕ) (q : Request) → IsTree s.history.tree → b < s.disk.count → May s b q → MayBeSent s.disk.count q
+may_be_sent s b (Lock key mode) tree there h = tt
+may_be_sent s b (Unlock key) tree there h = tt
+may_be_sent s b (OnNames (Look d n)) tree there h = tt
+may_be_sent s b (OnNames (Dirinfo d)) tree there h = tt
+may_be_sent s b (OnNames (SetLayout d value)) tree there h = h.1.2
+may_be_sent s b (OnNames (MakeDir d n g depth value)) tree there h = (may_be_made s b d n g depth value tree there h.1, h.1.also.1.2)
+may_be_sent s b (OnNames (DropDir d n g)) tree there h = tt
+may_be_sent s b (OnNames (Create d n f)) tree there h = tt
+may_be_sent s b (OnNames (MakeLinkto d n value)) tree there h = h.1.also.0
+may_be_sent s b (OnNames (DropLinkto d n)) tree there h = tt
+may_be_sent s b (OnNames (Unlink d n f)) tree there h = tt
+may_be_sent s b (OnNames q) tree there h = absurd h.0
+may_be_sent s b (OnFile (Drop f)) tree there h = tt
+may_be_sent s b (OnFile q) tree there h = absurd h.0
+may_be_sent s b (Seal f) tree there h = tt
+may_be_sent s b q tree there h = absurd h
 
 -- the states of the bricks, where one of them was set to another in the same state
 pub same_states_at : {B X : Type 0} (state : B → X) (bricks : List B) (b : ℕ) (old new : B) → old ≡ get_or bricks b old → state new ≡ state old → map state (slice_set bricks b new) ≡ map state bricks

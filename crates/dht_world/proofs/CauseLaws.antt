@@ -17,7 +17,7 @@ use Rattle.dht_section.specs.declared.caller.Caller.{Ghosts as CallerGhosts}
 use Rattle.dht_brick.specs.declared.journal.JournalEntry.{JournalEntry}
 use Rattle.dht_invariant.proofs.Basics.{not_true}
 use Rattle.dht_world.proofs.BrickLaws.{there_is}
-use Rattle.dht_world.proofs.CountLaws.{not_none}
+use Rattle.dht_invariant.proofs.CountedLaws.{not_none}
 use Rattle.dht_world.specs.Clients.{Works, ClientFits, claims_of, place_cause, IsBusy, IsIdle}
 use Rattle.dht_world.specs.Answers.{answered_in}
 use Rattle.dht_world.specs.Following.{client_cause, answer_cause, call_cause, step_cause, brick_cause, cause_of}

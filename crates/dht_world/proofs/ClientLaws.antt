@@ -15,7 +15,8 @@ use Rattle.dht_section.specs.declared.caller.Caller.{Ghosts as CallerGhosts}
 use Rattle.dht_world.proofs.LineLaws.{nat_cases}
 use Rattle.dht_invariant.specs.Transition.{scene, Transition}
 use Rattle.dht_world.specs.Bricks.{Logged}
-use Rattle.dht_world.specs.Clients.{client, claim_at, claims_of, Works, ClientFits, CallsCounted}
+use Rattle.dht_types.specs.Counted.{CallsCounted}
+use Rattle.dht_world.specs.Clients.{client, claim_at, claims_of, Works, ClientFits}
 use Rattle.dht_world.specs.World.{Summary, IsSummary, Fit, HoldersCall}
 use Rattle.dht_world.specs.declared.places.Place.{Place}
 use Rattle.dht_world.specs.declared.places.Place.TheVariants.{Living, Dead}
@@ -60,7 +61,6 @@ module _ {C : Type 0} (g : CallerGhosts C) where
     pub passes : Passes c s t
     pub logged : Logged ks t
     pub summary : IsSummary n t
-    pub counted : CallsCounted t
     pub many : length after ≡ length places
     pub same : (w : ℕ) → w ≢ c → slice_get after w ≡ slice_get places w
     pub own : ClientFits g e t (claims_of g after) c (slice_get after c)
@@ -76,7 +76,7 @@ module _ {C : Type 0} (g : CallerGhosts C) where
           number = h.number;
           named = h.named;
           begun = omega arith;
-          knows = stable k (scene d s p (client w) h.mine) (scene e t q (client w) h.mine) h.knows (tr.others (client w) h.mine ne);
+          knows = stable k (scene d s p (client w) h.mine) (scene e t q (client w) h.mine) h.knows (tr.others (client w) h.mine ne h.runs);
           in_time = λ u. subst (λ (ws : List ℕ). h.mine.steps + (g.stage k).variant ≤ cost (length ws) h.mine.call) (sym ps.weights)
               (h.in_time (undisturbed_before c s t h.mine h.mine ps (counted.numbered w h.mine h.runs) refl refl u));
         }
@@ -95,11 +95,10 @@ module _ {C : Type 0} (g : CallerGhosts C) where
       same_weights = h.passes.weights ∙ fit.same_weights;
       up_above = λ b l. h.passes.down b (let bricks : length s.weights ≡ length ws = ap (λ (xs : List ℕ). length xs) fit.same_weights in omega arith) ∙ fit.up_above b l;
       summary = h.summary;
-      counted = h.counted;
       many = h.many ∙ fit.many;
       each = λ w. elim (nat_cases w c) [
         | inl i ↦ subst (λ (y : ℕ). ClientFits g e t (claims_of g after) y (slice_get after y)) (sym i) h.own
         | inr ne ↦ subst (λ (o : Option (Place C)). ClientFits g e t (claims_of g after) w o) (sym (h.same w ne))
-            (client_on d e s t (claims_of g places) (claims_of g after) c w (slice_get places w) ne h.transition h.passes fit.counted (fit.each w))
+            (client_on d e s t (claims_of g places) (claims_of g after) c w (slice_get places w) ne h.transition h.passes fit.kept.counts (fit.each w))
       ];
     }

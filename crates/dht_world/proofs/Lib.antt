@@ -7,8 +7,10 @@ pub mod RefusalLaws
 pub mod CountLaws
 pub mod ClientLaws
 pub mod StepLaws
+pub mod NotedLaws
 pub mod WentLaws
 pub mod AtLaws
+pub mod HealedLaws
 pub mod AdvanceLaws
 pub mod BlockLaws
 pub mod CauseLaws

@@ -4,11 +4,11 @@ use Rattle.std.specs.Prelude.{None, nat_eq, if◌then◌else◌, map}
 use Rattle.dht_types.specs.Put.{put}
 use Rattle.dht_types.proofs.PutLaws.{put_elim, put_same, put_other, exact_nat}
 use Rattle.dht_types.specs.Gfid.{Entry}
-use Rattle.dht_types.specs.History.{History, with_line, with_lines, start, history_of, LegalFrom, Legal, is_change}
+use Rattle.dht_types.specs.History.{History, with_line, with_lines, start, history_of, LegalFrom, Legal, is_change, is_dir_change}
 use Rattle.dht_types.proofs.HistoryLaws.{lines_append, legal_append}
 use Rattle.dht_types.specs.declared.lines.Line.{Line}
 use Rattle.dht_brick.specs.declared.journal.JournalEntry.{JournalEntry}
-use Rattle.dht_world.specs.Bricks.{act_of, changed_slots}
+use Rattle.dht_world.specs.Bricks.{act_of, changed_slots, copied_slots, IsSublist}
 use Rattle.dht_world.specs.Following.{InTimeFrom}
 
 pub nat_cases : (x y : ℕ) → (x ≡ y) ⊎ (x ≢ y)
@@ -46,6 +46,28 @@ slots_front e false xs ys = refl
 pub slots_more : (es : List JournalEntry) (e : JournalEntry) → changed_slots (es ++ e ∷ []) ≡ changed_slots es ++ changed_slots (e ∷ [])
 slots_more [] e = refl
 slots_more (f ∷ fs) e = ap (λ xs. if is_change f.request f.reply then (f.gfid, f.name) ∷ xs else xs) (slots_more fs e) ∙ slots_front f (is_change f.request f.reply) (changed_slots fs) (changed_slots (e ∷ []))
+
+pub copied_more : (es : List JournalEntry) (e : JournalEntry) → copied_slots (es ++ e ∷ []) ≡ copied_slots es ++ copied_slots (e ∷ [])
+copied_more [] e = refl
+copied_more (f ∷ fs) e = ap (λ xs. if is_dir_change f.request f.reply then (f.gfid, f.name) ∷ xs else xs) (copied_more fs e) ∙ slots_front f (is_dir_change f.request f.reply) (copied_slots fs) (copied_slots (e ∷ []))
+
+-- more at the end of a list, or of both
+pub sublist_passed : {A : Type 0} (xs ys zs : List A) → IsSublist xs ys → IsSublist xs (ys ++ zs)
+sublist_passed [] ys zs h = tt
+sublist_passed (x ∷ xs) [] zs h = absurd h
+sublist_passed (x ∷ xs) (y ∷ ys) zs h = elim h [
+  | inl q ↦ inl (q.0, sublist_passed xs ys zs q.1)
+  | inr q ↦ inr (sublist_passed (x ∷ xs) ys zs q)
+]
+
+pub sublist_more : {A : Type 0} (xs ys : List A) (z : A) → IsSublist xs ys → IsSublist (xs ++ z ∷ []) (ys ++ z ∷ [])
+sublist_more [] [] z h = inl (refl, tt)
+sublist_more [] (y ∷ ys) z h = inr (sublist_more [] ys z tt)
+sublist_more (x ∷ xs) [] z h = absurd h
+sublist_more (x ∷ xs) (y ∷ ys) z h = elim h [
+  | inl q ↦ inl (q.0, sublist_more xs ys z q.1)
+  | inr q ↦ inr (sublist_more (x ∷ xs) ys z q)
+]
 
 pub put_twice_at : {A : Type 0} (f : ℕ → A) (k : ℕ) (v w : A) (m : ℕ) → put nat_eq (put nat_eq f k v) k w m ≡ put nat_eq f k w m
 put_twice_at f k v w m = put_elim (λ x. x ≡ put nat_eq f k w m) nat_eq exact_nat (put nat_eq f k v) k w m

@@ -6,16 +6,16 @@ use Rattle.std.proofs.Math.ListN.{length-set}
 use Rattle.std.proofs.lemmas.Bool.{ltb-false}
 use Rattle.dht_types.specs.Put.{put}
 use Rattle.dht_types.proofs.PutLaws.{put_same, put_other, exact_nat}
-use Rattle.dht_types.specs.Calls.{directory_of, name_of, refusal_at_once, refusal_of_home, refusal_at_start, first_refusal}
+use Rattle.dht_types.specs.Calls.{directory_of, name_of, name_refusal, refusal_at_once, refusal_of_home, refusal_at_start, first_refusal}
 use Rattle.dht_types.specs.Cost.{cost}
 use Rattle.dht_types.specs.Gfid.{home}
-use Rattle.dht_types.specs.Name.{refusal_of, is_invalid}
-use Rattle.dht_types.specs.Tree.{Tree, Refuse, says, answer_of, looked_up, created, unlinked}
+use Rattle.dht_types.specs.Name.{is_invalid}
+use Rattle.dht_types.specs.Tree.{Tree, Refuse, Say, says, answer_of, depth_of, looked_up, created, made_dir, unlinked, removed}
 use Rattle.dht_types.specs.History.{History, PendingCall, Answers, HeedsRefusal, accepted, with_line, history_of}
 use Rattle.dht_types.proofs.HistoryLaws.{point_with_line}
-use Rattle.dht_types.specs.declared.calls.Answer.TheVariants.{Fault}
+use Rattle.dht_types.specs.declared.calls.Answer.TheVariants.{Done, Fault}
 use Rattle.dht_types.specs.declared.calls.Call.{Call}
-use Rattle.dht_types.specs.declared.calls.Call.TheVariants.{Lookup, Create, Unlink}
+use Rattle.dht_types.specs.declared.calls.Call.TheVariants.{Lookup, Create, Mkdir, Unlink, Rmdir, Heal}
 use Rattle.dht_types.specs.declared.errors.Errno.{Errno}
 use Rattle.dht_types.specs.declared.errors.Errno.TheVariants.{Enomem, Einval, Enametoolong, Estale}
 use Rattle.dht_types.specs.declared.identifiers.CallNo.{CallNo}
@@ -44,7 +44,7 @@ use Rattle.dht_world.proofs.AnsweredLaws.{answered_more, answered_beyond}
 use Rattle.dht_world.proofs.AtLaws.{at_by, own_set, idle_claims, busy_claims, may_begin}
 use Rattle.dht_world.proofs.BrickLaws.{get_set_other}
 use Rattle.dht_world.proofs.ClientLaws.{claims_set, idle_is}
-use Rattle.dht_world.proofs.CountLaws.{counted_called, counted_ended}
+use Rattle.dht_invariant.proofs.CountedLaws.{counted_called, counted_ended}
 use Rattle.dht_world.proofs.LineLaws.{put_id}
 use Rattle.dht_world.proofs.WentLaws.{and_first}
 
@@ -54,8 +54,9 @@ same_error : {A : Type 0} (a b : Errno) (r : Result A Errno) → r ≡ Err a →
 same_error a b r ea eb = let e : Err a ≡ Err b = sym ea ∙ eb in cc
 
 -- one of a name has no point
-name_refusals : (n : List ℕ) (e : Errno) → refusal_of n ≡ Some e → (e ≡ Einval) ⊎ (e ≡ Enametoolong)
-name_refusals n e h = by (is_invalid n) (nat_lt 255 (length n)) h
+name_refusals : (o : Option (List ℕ)) (e : Errno) → name_refusal o ≡ Some e → (e ≡ Einval) ⊎ (e ≡ Enametoolong)
+name_refusals None e h = absurd (let z : None ≡ Some e = h in cc)
+name_refusals (Some n) e h = by (is_invalid n) (nat_lt 255 (length n)) h
   where
     by : (v w : Bool) → (if v then Some Einval else if w then Some Enametoolong else None) ≡ Some e → (e ≡ Einval) ⊎ (e ≡ Enametoolong)
     by true w k = inl (let z : Einval ≡ e = cc in sym z)
@@ -66,7 +67,10 @@ name_refusals n e h = by (is_invalid n) (nat_lt 255 (length n)) h
 says_stale : (t : Tree) (call : Call Gfid) (g : Gfid) → t.dirs (directory_of call) ≡ false → answer_of (says t call g) ≡ Some (Fault Estale)
 says_stale t (Lookup d n) g e = ap (λ (b : Bool). answer_of (if b then looked_up (t.names (d, n)) else Refuse Estale)) e
 says_stale t (Create d n) g e = ap (λ (b : Bool). answer_of (if b then created d n g (t.names (d, n)) else Refuse Estale)) e
+says_stale t (Mkdir d n) g e = ap (λ (b : Bool). answer_of (if b then made_dir (depth_of t d) d n g (t.names (d, n)) else Refuse Estale)) e
 says_stale t (Unlink d n) g e = ap (λ (b : Bool). answer_of (if b then unlinked d n (t.names (d, n)) else Refuse Estale)) e
+says_stale t (Rmdir d n) g e = ap (λ (b : Bool). answer_of (if b then removed t d n (t.names (d, n)) else Refuse Estale)) e
+says_stale t (Heal d) g e = ap (λ (b : Bool). answer_of (if b then Say Done else Refuse Estale)) e
 
 -- a directory whose home is none of the bricks is none of the tree
 pub home_beyond : (d : Disk) (s : History) (p : ℕ → Claim) (g : Gfid) → Rattle.dht_section.specs.Invariant.Invariant d s p → ((b : ℕ) → d.count ≤ b → d.brick b ≡ nothing) → d.count ≤ home g → s.tree.dirs g ≡ false
@@ -117,7 +121,7 @@ module _ (t : History) (callers : List ℕ) (line : ℕ) (k : CallNo) (what : Ca
       let heeds : HeedsRefusal r (Fault e) = subst (λ (o : Option Errno). MatchOption o (Unit {0}) (λ x. Fault e ≡ Fault x)) (sym h) refl in
       elim (name_refusals (name_of what) e h) [
         | inl q ↦ (subst (λ (x : Errno). Answers t r (refusal_point line x) (Fault x)) (sym q) (record { refused = h ∙ ap (λ (x : Errno). Some x) q; unprinted = refl }), heeds)
-        | inr q ↦ (subst (λ (x : Errno). Answers t r (refusal_point line x) (Fault x)) (sym q) (record { refused = h ∙ ap (λ (x : Errno). Some x) q; unprinted = refl }), heeds)
+        | inr q ↦ (subst (λ (x : Errno). Answers t r (refusal_point line x) (Fault x)) (sym q) (inl (record { refused = h ∙ ap (λ (x : Errno). Some x) q; unprinted = refl })), heeds)
       ]
 
   of_home : refusal_at_once what ≡ None → line ≤ t.size → (t.past line).dirs (directory_of what) ≡ false → e ≡ Estale → MayRefuse t r line e
@@ -182,12 +186,16 @@ module _ {C : Type 0} (g : CallerGhosts C) (laws : TransitionLaws) (stable : (x 
     runs : t.pending c ≡ Some mine
     runs = put_same nat_eq exact_nat s.pending c (Some mine)
 
+    ek_s : k.0 ≡ s.calls + 1
+    ek_s = let count = h.fit.summary.calls in omega arith
+
     one : Transition c d s p d t p
     one = laws.line c d s p called h.fit.kept h.fit.early (record {
       tree = refl;
       weights = refl;
       run = refl;
       calls = omega arith;
+      counts = λ q. counted_called s c k.0 what q ek_s;
       pending = λ w ne. put_other nat_eq exact_nat s.pending c (Some mine) w ne;
       own = λ o e fresh. inr (let count = h.fit.summary.calls in let z : mine ≡ o = (let y : Some mine ≡ Some o = sym runs ∙ e in cc) in let y : k.0 ≡ o.number.0 = ap (λ (q : PendingCall). q.number.0) z in omega arith);
     })
@@ -211,12 +219,11 @@ module _ {C : Type 0} (g : CallerGhosts C) (laws : TransitionLaws) (stable : (x 
         let two = laws.claim c d t p (g.stage v.after).claims one.kept one.early (may_begin g laws stable d t p c (g.stage v.after).claims one.kept free copy) in
         let both = laws.compose c d d d s t t p p (put nat_eq p c (g.stage v.after).claims) fit.kept one two in
         let set : put nat_eq p c (g.stage v.after).claims ≡ claims_of g (slice_set places c new) = ap (put nat_eq p c) (sym claims ∙ ap (λ (y : Place C). claim_at g (Some y)) (sym v.is)) ∙ claims_set g places c new within in
-        at_by g laws stable c d d js js places (slice_set places c new) ws n (with_call n (n.lines + 1)) past (called ∷ []) h ((h.legal.whole, omega arith, none), tt) refl (tt, tt) (record {
+        at_by g laws stable c d d js js places (slice_set places c new) ws n (with_call n (n.lines + 1)) past (called ∷ []) h ((h.legal.whole, omega arith, none), tt) refl (tt, tt) (λ b i q same. same) (tt, tt) (record {
           transition = subst (λ (q : ℕ → Claim). Transition c d s p d t q) set both;
           passes = record { weights = refl; calls = omega arith; clean = λ q. q; dead = λ w ne. refl; down = λ b l. refl };
-          logged = record { steps = fit.logged.steps; slots = fit.logged.slots };
+          logged = record { steps = fit.logged.steps; slots = fit.logged.slots; dirs = fit.logged.dirs };
           summary = record { run = summary.run; calls = omega arith; lines = omega arith; requests = summary.requests; answers = summary.answers ∙ answered_more n.answers; places = length-append n.answers (None ∷ []) ∙ omega arith; fewer = omega arith; less = omega arith };
-          counted = counted_called s c k.0 what fit.counted (omega arith);
           many = length-set places c new;
           same = λ w ne. get_set_other places c new w ne;
           own = own_set g laws stable d t places c new within (subst (λ (y : Place C). ClientFits g d t (claims_of g (slice_set places c new)) c (Some y)) (sym v.is) (
@@ -254,6 +261,7 @@ module _ {C : Type 0} (g : CallerGhosts C) (laws : TransitionLaws) (stable : (x 
           weights = refl;
           run = refl;
           calls = omega arith;
+          counts = λ q. counted_ended t u c q refl refl refl;
           pending = λ w ne. put_other nat_eq exact_nat t.pending c None w ne;
           own = λ o q fresh. absurd (let z : None ≡ Some o = sym (put_same nat_eq exact_nat t.pending c None) ∙ q in cc);
         }) in
@@ -266,10 +274,10 @@ module _ {C : Type 0} (g : CallerGhosts C) (laws : TransitionLaws) (stable : (x 
         refused in
         let answers : Answers t mine (refusal_point (n.lines + 1) e) (Fault e) = subst (λ (y : ℕ). Answers t mine (refusal_point y e) (Fault e)) (sym here_line) may.0 in
         at_by g laws stable c d d js js places (slice_set places c new) ws n (with_call n (n.lines + 1 + 1)) past (called ∷ answer ∷ []) h
-        ((h.legal.whole, omega arith, none), ((refl, (mine, record { runs = runs; number = refl }, answers, may.1)), tt)) refl (tt, (tt, tt)) (record {
+        ((h.legal.whole, omega arith, none), ((refl, (mine, record { runs = runs; number = refl }, answers, may.1)), tt)) refl (tt, (tt, tt)) (λ b i q same. same) (tt, (tt, tt)) (record {
           transition = subst (λ (q : ℕ → Claim). Transition c d s p d u q) set both;
           passes = record { weights = refl; calls = omega arith; clean = and_first s.clean _; dead = λ w ne. refl; down = λ b l. refl };
-          logged = record { steps = fit.logged.steps; slots = fit.logged.slots };
+          logged = record { steps = fit.logged.steps; slots = fit.logged.slots; dirs = fit.logged.dirs };
           summary = record {
             run = summary.run;
             calls = omega arith;
@@ -280,7 +288,6 @@ module _ {C : Type 0} (g : CallerGhosts C) (laws : TransitionLaws) (stable : (x 
             fewer = omega arith;
             less = omega arith;
           };
-          counted = counted_ended t u c (counted_called s c k.0 what fit.counted (omega arith)) refl refl refl;
           many = length-set places c new;
           same = λ w ne. get_set_other places c new w ne;
           own = own_set g laws stable d u places c new within (subst (λ (y : Place C). ClientFits g d u (claims_of g (slice_set places c new)) c (Some y)) (sym v.is) (

@@ -3,7 +3,7 @@ use Rattle.std.proofs.Common.{◌≡◌, ◌<◌, ◌≤◌, ◌+◌, ℕ, Bool,
 use Rattle.std.specs.Prelude.{Option, Some, None, is_some, MatchBool, map, nat_lt, not, ◌||◌, if◌then◌else◌, slice_get}
 use Rattle.std.specs.List.{list_any}
 use Rattle.std.proofs.lemmas.Bool.{ltb-false}
-use Rattle.dht_types.specs.History.{History, PendingCall, is_empty, with_line, start, history_of}
+use Rattle.dht_types.specs.History.{History, is_empty, with_line, start, history_of}
 use Rattle.dht_types.specs.Volume.{VolumeInfo, HasWeight, IsVolume, replay_info}
 use Rattle.dht_types.proofs.HistoryLaws.{run_with_line, lines_more}
 use Rattle.dht_types.specs.declared.lines.Cause.TheVariants.{Open, Fewer}
@@ -18,7 +18,8 @@ use Rattle.dht_section.specs.declared.caller.Caller.{Ghosts as CallerGhosts}
 use Rattle.dht_invariant.specs.Remount.{Remounts, RemountsInPart}
 use Rattle.dht_invariant.proofs.RemountKeeps.{remounts_keep, remounts_in_part_keep}
 use Rattle.dht_world.specs.Bricks.{disk_of, journals_of, volume_of, remounted_in, AreFresh, AreReady, AreReadyInEither, SomeBecame}
-use Rattle.dht_world.specs.Clients.{Works, ClientFits, CallsCounted, IsListed, AreNewClients, claim_at, claims_of, is_busy_at}
+use Rattle.dht_types.specs.Counted.{CallsCounted, IsListed}
+use Rattle.dht_world.specs.Clients.{Works, ClientFits, AreNewClients, claim_at, claims_of, is_busy_at}
 use Rattle.dht_world.specs.Following.{remount_cause}
 use Rattle.dht_world.specs.Places.{IsAt, IsRemounting, summary_of}
 use Rattle.dht_world.specs.World.{Summary, Fit, At}
@@ -26,8 +27,9 @@ use Rattle.dht_world.specs.declared.events.World.{World}
 use Rattle.dht_world.specs.declared.places.Place.{Place}
 use Rattle.dht_world.specs.declared.places.Place.TheVariants.{Living, Dead}
 use Rattle.dht_world.proofs.AtLaws.{down_after}
-use Rattle.dht_world.proofs.CountLaws.{none_if, not_empty, not_none}
+use Rattle.dht_invariant.proofs.CountedLaws.{none_if, not_empty, not_none}
 use Rattle.dht_world.proofs.LineLaws.{in_time_append, legal_lines}
+use Rattle.dht_world.proofs.NotedLaws.{noted_append}
 use Rattle.dht_world.proofs.MountLaws.{mounts, mount_journals, mount_ready, part_mounts, part_journals, part_ready}
 use Rattle.dht_world.proofs.StartLaws.{new_claim, new_fits}
 
@@ -125,8 +127,8 @@ module _ {C : Type 0} (g : CallerGhosts C) where
       by true e =
           let busy = some_place (is_busy_at g) places e in
           let pends = some_is (s.pending busy.0) (busy_pends d s (claims_of g places) busy.0 busy.1 (fits busy.0 (Some busy.1) busy.2) busy.3) in
-          sym (ap not (some_not_empty s.callers busy.0 (h.counted.listed busy.0 pends.0 pends.1)))
-      by false e = sym (ap not (none_listed s.callers (λ c l. let z : false ≡ true = sym (ap is_some (none e c (slice_get places c) refl)) ∙ h.counted.calling c l in cc)))
+          sym (ap not (some_not_empty s.callers busy.0 (h.kept.counts.listed busy.0 pends.0 pends.1)))
+      by false e = sym (ap not (none_listed s.callers (λ c l. let z : false ≡ true = sym (ap is_some (none e c (slice_get places c) refl)) ∙ h.kept.counts.calling c l in cc)))
 
   pub cause_is : (d : Disk) (js : ℕ → List JournalEntry) (places : List (Place C)) (ws w : List ℕ) (n : Summary) (s : History) (called fewer : Bool) → Fit g d js places ws n s → called ≡ list_any (is_busy_at g) places → fewer ≡ nat_lt (length w) (length ws) → (if called then Some Open else if fewer then Some Fewer else None) ≡ remount_cause s w
   cause_is d js places ws w n s called fewer h ec ef =
@@ -166,7 +168,7 @@ module _ {C : Type 0} (g : CallerGhosts C) where
     free = not_called s w accepted
 
     none : (c : ℕ) → s.pending c ≡ None
-    none = none_pending s h.fit.counted free.0
+    none = none_pending s h.fit.kept.counts free.0
 
     -- all bricks were mounted anew, others came, and all clients are new
     pub at_remounted : (after : List (Place C)) → HasWeight w → length w ≤ 32 → Remounts w d e → length after ≡ 64 → AreNewClients g after → At g e js after w (record n { run = n.run + 1; lines = n.lines + 1 }) (past ++ Remounted w ∷ [])
@@ -183,14 +185,14 @@ module _ {C : Type 0} (g : CallerGhosts C) where
         record {
           legal = legal_lines past (Remounted w ∷ []) h.legal ((h.legal.whole, none, free.1), tt) refl;
           in_time = in_time_append start past (Remounted w ∷ []) h.in_time (tt, tt);
+          noted = noted_append js start past (Remounted w ∷ []) h.noted (tt, tt);
           fit = subst (λ (u : History). Fit g e js after w (record n { run = n.run + 1; lines = n.lines + 1 }) u) (sym (lines_more start past (Remounted w))) (record {
             kept = subst (λ (p : ℕ → Claim). Invariant e t p) claims both.0;
             early = both.1;
-            logged = record { steps = fit.logged.steps; slots = fit.logged.slots };
+            logged = record { steps = fit.logged.steps; slots = fit.logged.slots; dirs = fit.logged.dirs };
             same_weights = refl;
             up_above = λ b l. fit.up_above b (let more = free.1 in omega arith);
             summary = record { run = omega arith; calls = summary.calls; lines = omega arith; requests = summary.requests; answers = summary.answers; places = summary.places; fewer = omega arith; less = omega arith };
-            counted = record { listed = fit.counted.listed; calling = fit.counted.calling; numbered = fit.counted.numbered; from_one = fit.counted.from_one; alone = fit.counted.alone };
             many = many;
             each = λ c. new_fits g e t (claims_of g after) c (slice_get after c) refl (none c) (new c);
           });
@@ -204,6 +206,7 @@ module _ {C : Type 0} (g : CallerGhosts C) where
         record {
           legal = h.legal;
           in_time = h.in_time;
+          noted = h.noted;
           fit = record {
             kept = both.0;
             early = both.1;
@@ -211,7 +214,6 @@ module _ {C : Type 0} (g : CallerGhosts C) where
             same_weights = fit.same_weights;
             up_above = fit.up_above;
             summary = fit.summary;
-            counted = fit.counted;
             many = fit.many;
             each = λ c. idle_fits d e s (claims_of g places) c (slice_get places c) (none c) (fit.each c);
           };

@@ -23,11 +23,11 @@ use Rattle.dht_world.specs.Clients.{client, claims_of, IsBusy, Asks, Takes}
 use Rattle.dht_world.specs.Following.{Block, cause_of}
 use Rattle.dht_world.specs.Lines.{request_lines}
 use Rattle.dht_world.specs.Places.{IsAt, summary_of}
-use Rattle.dht_world.specs.World.{At}
+use Rattle.dht_world.specs.World.{At, HealsWhole}
 use Rattle.dht_world.specs.declared.events.World.{World}
 use Rattle.dht_world.specs.declared.places.Place.{Place}
 use Rattle.dht_world.specs.declared.places.Place.TheVariants.{Living}
-use Rattle.dht_world.proofs.AdvanceLaws.{Answers, works_at, may_ask, call_there, gone, told, answer_served, at_on, at_answered}
+use Rattle.dht_world.proofs.AdvanceLaws.{Answers, works_at, may_ask, call_there, gone, told, answer_served, at_on, at_answered, healed_then}
 use Rattle.dht_world.proofs.BlockLaws.{block_on, block_answered}
 use Rattle.dht_world.proofs.BrickLaws.{may_be_sent}
 use Rattle.dht_world.proofs.CauseLaws.{busy_at}
@@ -57,8 +57,8 @@ module _ {B C : Type 0} (b : BrickGhosts B) (g : CallerGhosts C) (laws : Transit
     pub asks_there : a.brick.0 < length w.bricks.items
     asks_there = (may_ask g laws stable permitted goes_on d js w.clients.items w.weights (summary_of w) past c v.client k a at.led is_here busy v.asks).there
 
-    pub asks_sent : (count : ℕ) → MayBeSent count a.request
-    asks_sent count = may_be_sent (scene d (history_of past) (claims_of g w.clients.items) (client c) (works_at g laws stable permitted goes_on d js w.clients.items w.weights (summary_of w) past c v.client k at.led is_here busy).mine) a.brick.0 count a.request
+    pub asks_sent : MayBeSent (length w.bricks.items) a.request
+    asks_sent = may_be_sent (scene d (history_of past) (claims_of g w.clients.items) (client c) (works_at g laws stable permitted goes_on d js w.clients.items w.weights (summary_of w) past c v.client k at.led is_here busy).mine) a.brick.0 a.request at.led.fit.kept.tree asks_there
         (may_ask g laws stable permitted goes_on d js w.clients.items w.weights (summary_of w) past c v.client k a at.led is_here busy v.asks).may
 
     module _ (r : Reply) (bricks : List B) (l : c < 64) (small : w.lines < 2 ^ 64) (served : ServedAt b.state (history_of past).down (client c) k a w.bricks.items r bricks) where
@@ -118,3 +118,11 @@ module _ {B C : Type 0} (b : BrickGhosts B) (g : CallerGhosts C) (laws : Transit
           subst (λ (j : ℕ). At g e ks (slice_set w.clients.items j new) w.weights (record (summary_of w) { lines = w.lines + count + 1; requests = w.requests + 1; answers = slice_set w.answers.items (k.0 - 1) (gfid_in f.answer) }) (past ++ (xs ++ Answered k (client c) f.at f.answer ∷ []))) (sym ei)
           (subst (λ (m : ℕ). At g e ks (slice_set w.clients.items c new) w.weights (record (summary_of w) { lines = w.lines + m + 1; requests = w.requests + 1; answers = slice_set w.answers.items (k.0 - 1) (gfid_in f.answer) }) (past ++ (xs ++ Answered k (client c) f.at f.answer ∷ []))) (sym many)
           (at_answered g laws stable permitted goes_on d e js ks w.clients.items w.weights (summary_of w) past c v.client k a r at.led l is_here busy v.asks small answers u.after new f (u.is ∙ ap (λ (m : CallNo). Living u.after m) both.1) (u.same ∙ ap g.number both.0) ends.0 ends.1))
+
+      -- and where it was a heal that was alone, its directory is whole then
+      pub step_healed : (count : ℕ) (q new : Place C) (f : Finish) → slice_get w.clients.items c ≡ Some q → count ≡ length xs → Takes g q r (w.lines + count) (Some f) new → HealsWhole e (past ++ (xs ++ Answered k (client c) f.at f.answer ∷ []))
+      step_healed count q new f there many u =
+          let both = same_place u.before v.client u.number k (sym u.was ∙ (let z : Some q ≡ Some p = sym there ∙ here in let y : q ≡ p = cc in y) ∙ v.is) in
+          let moves : CallMoves g.is_busy g.stage v.client u.after r (w.lines + count) (Some f) = subst (λ (x : C). CallMoves g.is_busy g.stage x u.after r (w.lines + count) (Some f)) both.0 u.moves in
+          let ends = moves _ _ (answer_served g laws stable permitted goes_on d e js ks w.clients.items w.weights (summary_of w) past c v.client k a r at.led l is_here busy v.asks small answers (w.lines + count) (line_is count many)) in
+          healed_then g laws stable permitted goes_on d e js ks w.clients.items w.weights (summary_of w) past c v.client k a r at.led l is_here busy v.asks small answers f ends.1.earned.1

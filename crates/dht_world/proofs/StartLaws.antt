@@ -22,7 +22,6 @@ use Rattle.dht_world.specs.World.{At}
 use Rattle.dht_world.specs.declared.places.Place.{Place}
 use Rattle.dht_world.specs.declared.places.Place.TheVariants.{Living, Dead}
 use Rattle.dht_world.proofs.AnsweredLaws.{none_answered}
-use Rattle.dht_world.proofs.CountLaws.{not_none}
 
 -- new bricks are new, and where there is no brick there is nothing
 are_new : (ws : List ℕ) (d : Disk) (js : ℕ → List JournalEntry) → AreNewborn ws d js → AreNew ws d
@@ -56,20 +55,14 @@ module _ {C : Type 0} (g : CallerGhosts C) where
       record {
         legal = record { from = (refl, tt); whole = refl };
         in_time = (tt, tt);
+        noted = (tt, tt);
         fit = record {
           kept = subst (λ (p : ℕ → Claim). Invariant d s p) claims new.0;
           early = new.1;
-          logged = record { steps = λ b. ap (map act_of) (h.journals b); slots = λ b. ap changed_slots (h.journals b) };
+          logged = record { steps = λ b. ap (map act_of) (h.journals b); slots = λ b. ap changed_slots (h.journals b); dirs = λ b. tt };
           same_weights = refl;
           up_above = λ b l. refl;
           summary = record { run = refl; calls = refl; lines = refl; requests = refl; answers = none_answered; places = refl; fewer = omega arith; less = omega arith };
-          counted = record {
-            listed = λ c r e. absurd (not_none (s.pending c) r refl e);
-            calling = λ c l. absurd l;
-            numbered = λ c r e. absurd (not_none (s.pending c) r refl e);
-            from_one = λ c r e. absurd (not_none (s.pending c) r refl e);
-            alone = λ c w r e first last ne. refl;
-          };
           many = many;
           each = λ c. new_fits d s (claims_of g places) c (slice_get places c) refl refl (idle c);
         };

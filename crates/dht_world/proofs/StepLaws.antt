@@ -1,9 +1,9 @@
 -- What requests and their replies come to: which of them are a step of the tree, which wait, and when an unlock or a lock is carried out.
-use Rattle.std.proofs.Common.{◌≡◌, ◌≢◌, ◌≤◌, ◌↔◌, ℕ, zero, suc, Bool, true, false, List, ◌∷◌, refl, sym, ap, ◌∙◌, subst, length, arith}
-use Rattle.std.specs.Prelude.{Option, Some, None, is_some, not, ◌&&◌, ◌==◌, nat_eq, if◌then◌else◌}
-use Rattle.dht_types.specs.History.{slot_of, is_change, IsOf}
+use Rattle.std.proofs.Common.{◌≡◌, ◌≢◌, ◌≤◌, ◌↔◌, ◌⊎◌, ℕ, zero, suc, Bool, true, false, List, ◌∷◌, refl, sym, ap, ◌∙◌, subst, inl, inr, length, arith}
+use Rattle.std.specs.Prelude.{Option, Some, None, not, ◌&&◌, ◌==◌, nat_eq, if◌then◌else◌}
+use Rattle.dht_types.specs.History.{slot_of, is_change, is_dir_change, IsAtHome, IsOf}
 use Rattle.dht_types.specs.declared.calls.TreeStep.{TreeStep}
-use Rattle.dht_types.specs.declared.calls.TreeStep.TheVariants.{AddFile, RemoveFile}
+use Rattle.dht_types.specs.declared.calls.TreeStep.TheVariants.{AddFile, AddDir, RemoveFile, RemoveDir}
 use Rattle.dht_types.specs.declared.identifiers.CallNo.{CallNo}
 use Rattle.dht_types.specs.declared.identifiers.ClientNo.{ClientNo}
 use Rattle.dht_types.specs.declared.lines.ReplyKind.{ReplyKind}
@@ -17,7 +17,8 @@ use Rattle.dht_types.specs.declared.stored.Record.TheVariants.{Live}
 use Rattle.dht_types.specs.declared.stored.Slot.{Slot}
 use Rattle.dht_types.specs.declared.identifiers.Gfid.{Gfid}
 use Rattle.dht_types.proofs.PutLaws.{exact_nat}
-use Rattle.dht_types.specs.Gfid.{Entry}
+use Rattle.dht_types.specs.Gfid.{Entry, home}
+use Rattle.dht_types.specs.Tree.{IsDir}
 use Rattle.dht_brick.specs.Bricks.{ServesOrFails, is_unreachable}
 use Rattle.dht_brick.specs.Contents.{Contents, Store, Opens, Locks, dir, slot, file}
 use Rattle.dht_brick.specs.FileRows.{file_row}
@@ -38,20 +39,21 @@ use Rattle.dht_brick.specs.declared.replies.Reply.TheVariants.{Ok as Carried, Re
 use Rattle.dht_brick.specs.declared.requests.FileRequest.{FileRequest}
 use Rattle.dht_brick.specs.declared.requests.FileRequest.TheVariants.{Read, Drop}
 use Rattle.dht_brick.specs.declared.requests.NameRequest.{NameRequest}
-use Rattle.dht_brick.specs.declared.requests.NameRequest.TheVariants.{Look, Page, Dirinfo, SetLayout, DropDir, Create, Unlink, Orphans}
+use Rattle.dht_brick.specs.declared.requests.NameRequest.TheVariants.{Look, Page, Dirinfo, SetLayout, MakeDir, DropDir, Create, Unlink, Orphans}
 use Rattle.dht_brick.specs.declared.requests.Request.{Request}
 use Rattle.dht_brick.specs.declared.requests.Request.TheVariants.{Lock, Unlock, Seal, OnNames, OnFile}
 use Rattle.dht_brick.proofs.LockLaws.{free_locks_are_granted}
-use Rattle.dht_section.specs.Moves.{IsUnlock, step_of}
-use Rattle.dht_section.specs.Permits.{Permitted, May}
-use Rattle.dht_section.specs.Scene.{Scene, Wants}
+use Rattle.dht_section.specs.Moves.{IsUnlock, at_home, step_of}
+use Rattle.dht_section.specs.Permits.{Permitted, May, Changes}
+use Rattle.dht_section.specs.Scene.{Scene, Wants, WantsAll}
+use Rattle.dht_section.specs.Shapes.{node_of}
 use Rattle.dht_section.specs.Stages.{is_wait}
 use Rattle.dht_section.specs.declared.machine.Ask.{Ask}
 use Rattle.dht_world.specs.Lines.{tree_lines, step_line, request_lines}
 
 -- ---- which lines there are
 
-pub lines_are : (k : CallNo) (c : ClientNo) (a : Ask) (r : Reply) → is_wait r ≡ false → request_lines k c a r ≡ step_line k c a r ∷ tree_lines k (step_of a.request r)
+pub lines_are : (k : CallNo) (c : ClientNo) (a : Ask) (r : Reply) → is_wait r ≡ false → request_lines k c a r ≡ step_line k c a r ∷ tree_lines k (step_of a.brick.0 a.request r)
 lines_are k c a (Wait h) e = absurd (let z : true ≡ false = e in cc)
 lines_are k c a r e = refl
 
@@ -60,45 +62,84 @@ lines_there k c a (Wait h) = omega arith
 lines_there k c a r = omega arith
 
 -- no request about a file changes the tree so far
-file_changes : (q : FileRequest) (r : ReplyKind) → is_change (file_kind q) r ≡ false
-file_changes (Read f offset size) r = refl
-file_changes q r = refl
+file_changes : (q : FileRequest) (r : ReplyKind) → (is_change (file_kind q) r ≡ false) × (is_dir_change (file_kind q) r ≡ false)
+file_changes (Read f offset size) r = (refl, refl)
+file_changes q r = (refl, refl)
 
--- a request changes the tree exactly where it stands for a step
-pub change_is : (q : Request) (r : Reply) → is_change (kind_of q) (reply_kind r) ≡ is_some (step_of q r)
-change_is (OnNames (Create d n f)) (Carried g) = refl
-change_is (OnNames (Create d n f)) r = refl
-change_is (OnNames (Unlink d n f)) (Carried g) = refl
-change_is (OnNames (Unlink d n f)) r = refl
-change_is (OnFile q) (Carried g) = file_changes q _
-change_is (OnFile q) r = file_changes q _
-change_is q (Carried g) = refl
-change_is q r = refl
+-- the line of a request that did no step demands no tree line
+pub none_is : (b : ℕ) (q : Request) (r : Reply) → step_of b q r ≡ None → is_change (kind_of q) (reply_kind r) ≡ false
+none_is b (OnNames (Create d n f)) (Carried g) e = absurd (let z : Some (AddFile d n f) ≡ None = e in cc)
+none_is b (OnNames (Create d n f)) r e = refl
+none_is b (OnNames (Unlink d n f)) (Carried g) e = absurd (let z : Some (RemoveFile d n) ≡ None = e in cc)
+none_is b (OnNames (Unlink d n f)) r e = refl
+none_is b (OnFile q) r e = (file_changes q _).0
+none_is b q r e = refl
 
--- the step is of the request's kind, and changes the slot that it names
-pub of_step : (q : Request) (r : Reply) (x : TreeStep) → step_of q r ≡ Some x → IsOf (kind_of q) x × (slot_of x ≡ named q)
-of_step (OnNames (Create d n f)) (Carried g) x e =
+-- a step at the home of its directory
+home_is : (b : ℕ) (g : Gfid) (y x : TreeStep) → at_home b g y ≡ Some x → (b ≡ home g) × (y ≡ x)
+home_is b g y x e = by (nat_eq b (home g)) refl e
+  where
+    by : (v : Bool) → nat_eq b (home g) ≡ v → (if v then Some y else None) ≡ Some x → (b ≡ home g) × (y ≡ x)
+    by true q k = ((exact_nat b (home g)).0 q, (let z : Some y ≡ Some x = k in cc))
+    by false q k = absurd (let z : None ≡ Some x = k in cc)
+
+-- what is known of a step that a request did: it is of the request's kind, and changes the slot that the
+-- request names; and its tree line must stand under the request's line, or it may
+pub record IsStepOf (q : Request) (r : Reply) (x : TreeStep) : Type 0 where
+  pub kind : IsOf (kind_of q) x
+  pub slot : slot_of x ≡ named q
+  pub due : ((is_change (kind_of q) (reply_kind r) ≡ true) × (is_dir_change (kind_of q) (reply_kind r) ≡ false))
+      ⊎ ((is_change (kind_of q) (reply_kind r) ≡ false) × (is_dir_change (kind_of q) (reply_kind r) ≡ true))
+
+pub of_step : (b : ℕ) (q : Request) (r : Reply) (x : TreeStep) → step_of b q r ≡ Some x → IsStepOf q r x
+of_step b (OnNames (Create d n f)) (Carried g) x e =
     let w : AddFile d n f ≡ x = (let z : Some (AddFile d n f) ≡ Some x = e in cc) in
-    subst (λ (y : TreeStep). IsOf request.Create y × (slot_of y ≡ (d, n))) w (tt, refl)
-of_step (OnNames (Unlink d n f)) (Carried g) x e =
+    subst (IsStepOf (OnNames (Create d n f)) (Carried g)) w (record { kind = tt; slot = refl; due = inl (refl, refl) })
+of_step b (OnNames (MakeDir d n h depth value)) (Carried g) x e =
+    subst (IsStepOf (OnNames (MakeDir d n h depth value)) (Carried g)) (home_is b h (AddDir d n h) x e).1 (record { kind = tt; slot = refl; due = inr (refl, refl) })
+of_step b (OnNames (Unlink d n f)) (Carried g) x e =
     let w : RemoveFile d n ≡ x = (let z : Some (RemoveFile d n) ≡ Some x = e in cc) in
-    subst (λ (y : TreeStep). IsOf request.Unlink y × (slot_of y ≡ (d, n))) w (tt, refl)
-of_step q (Carried g) x e = absurd (let z : None ≡ Some x = e in cc)
-of_step q r x e = absurd (let z : None ≡ Some x = e in cc)
+    subst (IsStepOf (OnNames (Unlink d n f)) (Carried g)) w (record { kind = tt; slot = refl; due = inl (refl, refl) })
+of_step b (OnNames (DropDir d n h)) (Carried g) x e =
+    subst (IsStepOf (OnNames (DropDir d n h)) (Carried g)) (home_is b h (RemoveDir d n) x e).1 (record { kind = tt; slot = refl; due = inr (refl, refl) })
+of_step b q (Carried g) x e = absurd (let z : None ≡ Some x = e in cc)
+of_step b q r x e = absurd (let z : None ≡ Some x = e in cc)
 
-may_want : (s : Scene) (b : ℕ) (q : Request) (r : Reply) (x : TreeStep) → May s b q → step_of q r ≡ Some x → Wants s x
-may_want s b (OnNames (Create d n f)) (Carried g) x m e =
-    let w : AddFile d n f ≡ x = (let z : Some (AddFile d n f) ≡ Some x = e in cc) in
-    subst (Wants s) w m.1.wants
-may_want s b (OnNames (Unlink d n f)) (Carried g) x m e =
-    let w : RemoveFile d n ≡ x = (let z : Some (RemoveFile d n) ≡ Some x = e in cc) in
-    subst (Wants s) w m.1.wants
+may_want : (s : Scene) (b : ℕ) (q : Request) (r : Reply) (x : TreeStep) → May s b q → step_of b q r ≡ Some x → Wants s x
+may_want s b (OnNames (Create d n f)) (Carried g) x m e = subst (WantsAll s) e m.1.wants
+may_want s b (OnNames (MakeDir d n h depth value)) (Carried g) x m e = subst (WantsAll s) e m.1.wants
+may_want s b (OnNames (Unlink d n f)) (Carried g) x m e = subst (WantsAll s) e m.1.wants
+may_want s b (OnNames (DropDir d n h)) (Carried g) x m e = subst (WantsAll s) e m.1.wants
 may_want s b q (Carried g) x m e = absurd (let z : None ≡ Some x = e in cc)
 may_want s b q r x m e = absurd (let z : None ≡ Some x = e in cc)
 
 -- it is one that was wanted
-pub wants_of : (s : Scene) (a : Ask) (r : Reply) (x : TreeStep) → Permitted s a → step_of a.request r ≡ Some x → Wants s x
+pub wants_of : (s : Scene) (a : Ask) (r : Reply) (x : TreeStep) → Permitted s a → step_of a.brick.0 a.request r ≡ Some x → Wants s x
 wants_of s a r x p e = may_want s a.brick.0 a.request r x p.may e
+
+-- a copy of a directory is dropped only where the directory stands
+dropped_is : (s : Scene) (b : ℕ) (d : Gfid) (n : List ℕ) (g : Gfid) → Changes s b (DropDir d n g) → s.history.tree.names (d, n) ≡ Some (IsDir g)
+dropped_is s b d n g m = m.stands.node ∙ ap node_of m.takes.1
+
+-- a directory is made and removed at its home
+step_at_home : (s : Scene) (b : ℕ) (q : Request) (r : Reply) (x : TreeStep) → May s b q → step_of b q r ≡ Some x → IsAtHome s.history.tree b x
+step_at_home s b (OnNames (Create d n f)) (Carried g) x m e =
+    let w : AddFile d n f ≡ x = (let z : Some (AddFile d n f) ≡ Some x = e in cc) in
+    subst (IsAtHome s.history.tree b) w tt
+step_at_home s b (OnNames (MakeDir d n h depth value)) (Carried g) x m e =
+    let at = home_is b h (AddDir d n h) x e in
+    subst (IsAtHome s.history.tree b) at.1 at.0
+step_at_home s b (OnNames (Unlink d n f)) (Carried g) x m e =
+    let w : RemoveFile d n ≡ x = (let z : Some (RemoveFile d n) ≡ Some x = e in cc) in
+    subst (IsAtHome s.history.tree b) w tt
+step_at_home s b (OnNames (DropDir d n h)) (Carried g) x m e =
+    let at = home_is b h (RemoveDir d n) x e in
+    subst (IsAtHome s.history.tree b) at.1 (λ k stands. at.0 ∙ ap home (let z : Some (IsDir h) ≡ Some (IsDir k) = sym (dropped_is s b d n h m.1) ∙ stands in let y : h ≡ k = cc in y))
+step_at_home s b q (Carried g) x m e = absurd (let z : None ≡ Some x = e in cc)
+step_at_home s b q r x m e = absurd (let z : None ≡ Some x = e in cc)
+
+pub is_at_home : (s : Scene) (a : Ask) (r : Reply) (x : TreeStep) → Permitted s a → step_of a.brick.0 a.request r ≡ Some x → IsAtHome s.history.tree a.brick.0 x
+is_at_home s a r x p e = step_at_home s a.brick.0 a.request r x p.may e
 
 -- ---- which requests wait
 

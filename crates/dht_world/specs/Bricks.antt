@@ -1,9 +1,11 @@
 -- The bricks of a world: what they contain, their journals, and that they are ready.
-use Rattle.std.specs.Prelude.{ℕ, suc, ◌-◌, ◌≡◌, ◌≢◌, ◌<◌, ◌≤◌, ◌↔◌, ◌⊎◌, Bool, true, false, not, if◌then◌else◌, Option, Some, None, List, [], ◌∷◌, ◌++◌, map, length, slice_get, nat_eq}
+use Rattle.std.specs.Prelude.{ℕ, suc, ◌-◌, ◌≡◌, ◌≢◌, ◌<◌, ◌≤◌, ◌↔◌, ◌⊎◌, Bool, true, false, not, if◌then◌else◌, Option, Some, None, List, [], ◌∷◌, ◌++◌, map, option_map, length, slice_get, nat_eq}
 use Rattle.std.specs.FinMap.{empty}
 use Rattle.dht_types.specs.Gfid.{Entry, root}
-use Rattle.dht_types.specs.History.{History, Act, is_change}
+use Rattle.dht_types.specs.History.{History, Act, Owed, IsDue, is_change, is_dir_change, slot_of, with_line}
 use Rattle.dht_types.specs.Volume.{VolumeInfo, replay_info, replay_names}
+use Rattle.dht_types.specs.declared.lines.Line.{Line}
+use Rattle.dht_types.specs.declared.lines.Line.TheVariants.{Tree}
 use Rattle.dht_xattr.specs.Plan.{planned_value}
 use Rattle.dht_brick.specs.Bricks.{BrickState, IsNewborn, ServesOrFails, is_unreachable, unless_down}
 use Rattle.dht_brick.specs.Contents.{Contents, newborn, no_opens, no_locks}
@@ -73,10 +75,40 @@ abbrev pub changed_slots : List JournalEntry → List Entry
 changed_slots [] = []
 changed_slots (e ∷ es) = if is_change e.request e.reply then (e.gfid, e.name) ∷ changed_slots es else changed_slots es
 
--- each brick's journal is, in order, its step lines, and the tree lines under them are of its entries' slots
+-- and of those that made or dropped a copy of a directory
+abbrev pub copied_slots : List JournalEntry → List Entry
+copied_slots [] = []
+copied_slots (e ∷ es) = if is_dir_change e.request e.reply then (e.gfid, e.name) ∷ copied_slots es else copied_slots es
+
+-- the first list is the second without some of its elements
+abbrev pub IsSublist : {A : Type 0} → List A → List A → Type 0
+IsSublist [] ys = Unit {0}
+IsSublist (x ∷ xs) [] = ⊥
+IsSublist (x ∷ xs) (y ∷ ys) = ((x ≡ y) × IsSublist xs ys) ⊎ IsSublist (x ∷ xs) ys
+
+-- each brick's journal is, in order, its step lines, and the tree lines under them are of its entries'
+-- slots: of each that changed a file's name, and of some that made or dropped a copy of a directory, which
+-- is a step of the tree only at the directory's home
 pub record Logged (journals : ℕ → List JournalEntry) (s : History) : Type 0 where
   pub steps : (b : ℕ) → map act_of (journals b) ≡ s.acts b
   pub slots : (b : ℕ) → changed_slots (journals b) ≡ s.changes b
+  pub dirs : (b : ℕ) → IsSublist (s.dir_changes b) (copied_slots (journals b))
+
+-- the entry of what a brick has served last by then
+abbrev pub last_entry : (ℕ → List JournalEntry) → History → ℕ → Option JournalEntry
+last_entry journals s b = slice_get (journals b) (length (s.acts b) - 1)
+
+-- a tree line is of the slot that the entry of the request above it names
+abbrev pub IsNoted : (ℕ → List JournalEntry) → History → Line → Type 0
+IsNoted journals s (Tree k step) = (w : Owed)
+    → IsDue s.owed s.allowed w
+    → option_map (λ e. (e.gfid, e.name)) (last_entry journals s w.brick) ≡ Some (slot_of step)
+IsNoted journals s line = Unit {0}
+
+abbrev pub AreNoted : (ℕ → List JournalEntry) → History → List Line → Type 0
+AreNoted journals s [] = Unit {0}
+AreNoted journals s (line ∷ lines) =
+    IsNoted journals s line × AreNoted journals (with_line s line) lines
 
 -- a new brick of this number, in a volume of these weights: it has the root's record alone, with the range that is planned for the brick
 abbrev pub new_brick : List ℕ → ℕ → Contents

@@ -1,5 +1,5 @@
 -- The 64 places of clients, and what holds of each.
-use Rattle.std.specs.Prelude.{ℕ, ◌+◌, ◌<◌, ◌≤◌, ◌≡◌, ◌≢◌, ◌⊎◌, Bool, true, false, if◌then◌else◌, MatchBool, Option, Some, None, is_some, Result, is_ok, OnOk, List, [], ◌∷◌, length, slice_get}
+use Rattle.std.specs.Prelude.{ℕ, ◌+◌, ◌<◌, ◌≤◌, ◌≡◌, ◌≢◌, ◌⊎◌, Bool, true, false, if◌then◌else◌, MatchBool, Option, Some, None, Result, is_ok, OnOk, List, [], ◌∷◌, length, slice_get}
 use Rattle.dht_types.specs.Calls.{refusal_at_once, refusal_at_start}
 use Rattle.dht_types.specs.Cost.{cost}
 use Rattle.dht_types.specs.History.{History, PendingCall, IsUndisturbed}
@@ -126,20 +126,3 @@ pub record Takes {C : Type 0} (g : CallerGhosts C) (old : Place C) (r : Reply) (
   pub is : new ≡ Living after number
   pub same : g.number after ≡ g.number before
   pub moves : CallMoves g.is_busy g.stage before after r at answer
-
--- ---- the clients that have a pending call, as the history counts them
-
--- the number is one of these
-abbrev pub IsListed : ℕ → List ℕ → Type 0
-IsListed c [] = ⊥
-IsListed c (x ∷ xs) = (x ≡ c) ⊎ IsListed c xs
-
--- each pending call is listed, and who is listed has one; it has a number that was given; one that was
--- alone when it began, and after which none was accepted, is alone
-pub record CallsCounted (s : History) : Type 0 where
-  pub listed : (c : ℕ) (r : PendingCall) → s.pending c ≡ Some r → IsListed c s.callers
-  pub calling : (c : ℕ) → IsListed c s.callers → is_some (s.pending c) ≡ true
-  pub numbered : (c : ℕ) (r : PendingCall) → s.pending c ≡ Some r → r.number.0 ≤ s.calls
-  pub from_one : (c : ℕ) (r : PendingCall) → s.pending c ≡ Some r → 0 < r.number.0
-  pub alone : (c w : ℕ) (r : PendingCall)
-      → s.pending c ≡ Some r → r.alone ≡ true → r.number.0 ≡ s.calls → w ≢ c → s.pending w ≡ None

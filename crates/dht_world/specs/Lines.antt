@@ -21,4 +21,4 @@ step_line k c a r = Stepped k c a.brick (kind_of a.request) (reply_kind r)
 
 abbrev pub request_lines : CallNo → ClientNo → Ask → Reply → List Line
 request_lines k c a (Wait holder) = Waited k c a.brick holder ∷ []
-request_lines k c a r = step_line k c a r ∷ tree_lines k (step_of a.request r)
+request_lines k c a r = step_line k c a r ∷ tree_lines k (step_of a.brick.0 a.request r)

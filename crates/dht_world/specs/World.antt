@@ -1,20 +1,26 @@
 -- What holds of a world between events.
-use Rattle.std.specs.Prelude.{ℕ, ◌≡◌, ◌≤◌, ◌<◌, true, false, is_some, Option, Some, List, length, slice_get}
-use Rattle.dht_types.specs.History.{History, Legal, history_of, start}
+use Rattle.std.specs.Prelude.{ℕ, ◌≡◌, ◌≤◌, ◌<◌, true, false, is_some, Option, Some, List, [], ◌∷◌, ◌++◌, length, slice_get}
+use Rattle.dht_types.specs.History.{History, PendingCall, IsAlone, Legal, history_of, start}
+use Rattle.dht_types.specs.declared.calls.Answer.TheVariants.{Done}
+use Rattle.dht_types.specs.declared.calls.Call.TheVariants.{Heal}
 use Rattle.dht_types.specs.declared.events.Event.{Event}
 use Rattle.dht_types.specs.declared.events.Event.TheVariants.{Volume, Remount}
+use Rattle.dht_types.specs.declared.identifiers.CallNo.{CallNo}
+use Rattle.dht_types.specs.declared.identifiers.ClientNo.{ClientNo}
 use Rattle.dht_types.specs.declared.identifiers.Gfid.{Gfid}
 use Rattle.dht_types.specs.declared.lines.Line.{Line}
+use Rattle.dht_types.specs.declared.lines.Line.TheVariants.{Answered}
 use Rattle.dht_types.specs.declared.locks.Key.{Key}
 use Rattle.dht_types.specs.declared.locks.Mode.{Mode}
 use Rattle.dht_brick.specs.declared.journal.JournalEntry.{JournalEntry}
 use Rattle.dht_section.specs.declared.caller.Caller.{Ghosts as CallerGhosts}
 use Rattle.dht_section.specs.Disk.{Disk, holders}
 use Rattle.dht_section.specs.Early.{Early}
+use Rattle.dht_section.specs.Healed.{IsHealed}
 use Rattle.dht_section.specs.Invariant.{Invariant}
 use Rattle.dht_world.specs.Answers.{answered_in}
-use Rattle.dht_world.specs.Bricks.{Logged}
-use Rattle.dht_world.specs.Clients.{claims_of, ClientFits, CallsCounted}
+use Rattle.dht_world.specs.Bricks.{Logged, AreNoted}
+use Rattle.dht_world.specs.Clients.{claims_of, ClientFits}
 use Rattle.dht_world.specs.Following.{InTimeFrom}
 use Rattle.dht_world.specs.declared.places.Place.{Place}
 
@@ -52,7 +58,6 @@ pub record Fit {C : Type 0} (g : CallerGhosts C) (d : Disk) (js : ℕ → List J
   pub same_weights : s.weights ≡ ws
   pub up_above : (b : ℕ) → length ws ≤ b → s.down b ≡ false
   pub summary : IsSummary n s
-  pub counted : CallsCounted s
   pub many : length places ≡ 64
   pub each : (c : ℕ) → ClientFits g d s (claims_of g places) c (slice_get places c)
 
@@ -60,7 +65,24 @@ pub record Fit {C : Type 0} (g : CallerGhosts C) (d : Disk) (js : ℕ → List J
 pub record At {C : Type 0} (g : CallerGhosts C) (d : Disk) (js : ℕ → List JournalEntry) (places : List (Place C)) (ws : List ℕ) (n : Summary) (past : List Line) : Type 0 where
   pub legal : Legal past
   pub in_time : InTimeFrom start past
+  pub noted : AreNoted js start past
   pub fit : Fit g d js places ws n (history_of past)
+
+-- the last of the lines is the answer ok of a heal of this directory, which was the only call in its span
+pub record EndsWithHeal (lines : List Line) (g : Gfid) : Type 0 where
+  pub before : List Line
+  pub number : CallNo
+  pub client : ClientNo
+  pub point : Option ℕ
+  pub all : lines ≡ before ++ Answered number client point Done ∷ []
+  pub call : PendingCall
+  pub runs : (history_of before).pending client.0 ≡ Some call
+  pub heals : call.call ≡ Heal g
+  pub alone : IsAlone (history_of before) call
+
+-- then the directory is whole on these bricks, and so is each above it
+abbrev pub HealsWhole : Disk → List Line → Type 0
+HealsWhole d lines = (g : Gfid) → EndsWithHeal lines g → IsHealed d (history_of lines).tree g
 
 -- each lock is held by a client that has a pending call
 abbrev pub HoldersCall : Disk → History → Type 0

@@ -369,9 +369,11 @@ impl<B: Brick, C: Caller> World<B, C> {
         }
     }
 
-    /// One event that brings no bricks, that of this line of the schedule; its lines are appended. It does not happen where
-    /// it is a step and the run has had all its steps, nor where memory runs out: then nothing has
-    /// happened.
+    /// One event that brings no bricks, that of this line of the schedule; its lines are appended. It
+    /// does not happen where it is a step and the run has had all its steps, nor where memory runs
+    /// out: then nothing has happened. Where its last line is the answer ok of a heal that was the
+    /// only call in its span, each brick has the heal's directory and each above it then, and their
+    /// ranges have no hole and no overlap.
     pub fn event(
         &mut self,
         alloc: Global,

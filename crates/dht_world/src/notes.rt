@@ -1,7 +1,7 @@
 //! The lines of one request.
 
 ghost use Rattle.std.specs.Prelude.{◌≡◌, ◌+◌, ◌≤◌, ◌<◌, [], ◌∷◌, ◌++◌, vec_len, vec_capacity, length};
-ghost use Rattle.dht_section.specs.Moves.{step_of};
+ghost use Rattle.dht_section.specs.Moves.{at_home, step_of};
 ghost use Rattle.dht_world.specs.Following.{refusal_point};
 ghost use Rattle.dht_world.specs.Lines.{request_lines};
 
@@ -10,7 +10,7 @@ use dht_brick::requests::{NameRequest, Request};
 use dht_section::machine::Ask;
 use dht_types::calls::TreeStep;
 use dht_types::errors::Errno;
-use dht_types::identifiers::{CallNo, ClientNo};
+use dht_types::identifiers::{BrickNo, CallNo, ClientNo, Gfid};
 use dht_types::lines::Line;
 
 /// Appends a line, for which there is room.
@@ -22,16 +22,36 @@ pub fn push_line(out: &mut Vec<Line>, line: Line)
     let _ = out.push(line);
 }
 
-/// The step of the tree that a reply to a request stands for, if any.
-pub fn step_of(request: &Request, reply: &Reply) -> Option<TreeStep>
-    ensures { result ≡ step_of request.now reply.now }
+/// This step, if a brick is the home of the directory.
+fn at_home(brick: BrickNo, directory: Gfid, step: TreeStep) -> Option<TreeStep>
+    ensures { result ≡ at_home brick.0 directory step }
 {
-    match (reply, request) {
-        (Reply::Ok(_), Request::OnNames(NameRequest::Create(dir, name, file))) => {
-            Some(TreeStep::AddFile(*dir, *name, *file))
-        }
-        (Reply::Ok(_), Request::OnNames(NameRequest::Unlink(dir, name, _))) => {
-            Some(TreeStep::RemoveFile(*dir, *name))
+    if brick.0 == directory.home().0 {
+        Some(step)
+    } else {
+        None
+    }
+}
+
+/// The step of the tree that a brick's reply to a request stands for, if any. A directory is made and
+/// dropped on each brick, but only at its home is that a step of the tree.
+pub fn step_of(brick: BrickNo, request: &Request, reply: &Reply) -> Option<TreeStep>
+    ensures { result ≡ step_of brick.0 request.now reply.now }
+{
+    let (Reply::Ok(_), Request::OnNames(request)) = (reply, request) else {
+        return None;
+    };
+    match request {
+        NameRequest::Create(dir, name, file) => Some(TreeStep::AddFile(*dir, *name, *file)),
+        NameRequest::MakeDir {
+            dir,
+            name,
+            made,
+            ..
+        } => at_home(brick, *made, TreeStep::AddDir(*dir, *name, *made)),
+        NameRequest::Unlink(dir, name, _) => Some(TreeStep::RemoveFile(*dir, *name)),
+        NameRequest::DropDir(dir, name, dropped) => {
+            at_home(brick, *dropped, TreeStep::RemoveDir(*dir, *name))
         }
         _ => None,
     }
@@ -70,7 +90,7 @@ pub fn push_request(
         out,
         Line::Stepped(call, client, ask.brick, ask.request.kind(), reply.kind()),
     );
-    match step_of(&ask.request, reply) {
+    match step_of(ask.brick, &ask.request, reply) {
         Some(step) => {
             push_line(out, Line::Tree(call, step));
             2

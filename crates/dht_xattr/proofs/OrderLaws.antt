@@ -4,7 +4,7 @@ use Rattle.std.specs.Prelude.{sum, sum_by, slice_index}
 use Rattle.std.proofs.Math.Nat.{mod-lt}
 use Rattle.std.proofs.lemmas.Bool.{cases_lt}
 use Rattle.std.proofs.lemmas.Bool.Decides.{nat_tests}
-use Rattle.std.proofs.lemmas.List.{length-append, length-drop, length-take, get_or_append_left, get_or-append_right, get_or-drop, get_or-take}
+use Rattle.std.proofs.lemmas.List.{get_or_default, length-append, length-drop, length-take, get_or_append_left, get_or-append_right, get_or-drop, get_or-take}
 use Rattle.std.proofs.lemmas.List.Sums.{sum_by-cons, sum_by-append, sum_by-take-drop}
 use Rattle.dht_types.specs.declared.identifiers.Gfid.{Gfid}
 use Rattle.dht_types.specs.Volume.{HasWeight}
@@ -143,6 +143,13 @@ order_weighs ws dir k d h =
     let (inside, at) = seam_is (turn dir (length bricks)) bricks k d fits (omega arith) in
     let weighs = heavy_weighs (slice_index ws) 0 ws (seam (turn dir (length bricks)) bricks k) d (λ i l. let place : 0 + i ≡ i = omega arith in ap (slice_index ws) place) inside in
     subst (λ (b : ℕ). 0 < slice_index ws b) (sym at) weighs
+
+-- where a brick has a place in the order, some brick has weight
+pub order_heavy : (ws : List ℕ) (dir : Gfid) (k : ℕ) → k < length (order ws dir) → HasWeight ws
+order_heavy ws dir k h =
+    let brick = get_or (order ws dir) k 0 in
+    let inside = order_within ws dir k 0 h in
+    (brick, slice_index ws brick, inside, get_or_default ws brick (slice_index ws brick) 0 inside, order_weighs ws dir k 0 h)
 
 pub order_some : (ws : List ℕ) (dir : Gfid) → HasWeight ws → 0 < length (order ws dir)
 unfolding order

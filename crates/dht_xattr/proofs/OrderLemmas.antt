@@ -1,13 +1,12 @@
 -- How the order of bricks is made, and what weighs how much.
-use Rattle.std.proofs.Common.{◌≡◌, ℕ, zero, suc, ◌+◌, ◌<◌, ◌≤◌, List, [], ◌∷◌, ◌++◌, length, take, drop, set, sym, ap, ◌∙◌, arith}
+use Rattle.std.proofs.Common.{◌≡◌, ℕ, zero, suc, ◌+◌, ◌<◌, ◌≤◌, List, [], ◌∷◌, ◌++◌, length, take, drop, set, refl, sym, ap, ◌∙◌, arith}
 use Rattle.std.specs.Prelude.{sum, slice_index}
 use Rattle.std.proofs.Math.Seq.{take-append_seam}
-use Rattle.std.proofs.lemmas.List.{take_more, take_more_set, take_all, length-take-le}
+use Rattle.std.proofs.lemmas.List.{get_or_default, take_more, take_more_set, length-take-le}
 use Rattle.std.proofs.lemmas.List.Sums.{sum_by-le}
 use Rattle.dht_types.specs.declared.identifiers.Gfid.{Gfid}
-use Rattle.dht_types.specs.Volume.{VolumeInfo, IsVolume}
 use Rattle.dht_xattr.specs.Plan.{heavy_from, turn, rotated, order}
-use Rattle.dht_xattr.proofs.OrderLaws.{heavy_positive, length-rotated, turn_fits}
+use Rattle.dht_xattr.proofs.OrderLaws.{length-rotated, turn_fits}
 
 -- a brick more, of weight 0 or above
 heavy_none : (b : ℕ) (ws : List ℕ) (w : ℕ) → w ≡ 0 → heavy_from b (ws ++ w ∷ []) ≡ heavy_from b ws
@@ -43,21 +42,10 @@ heavy_more_yes ws bricks k n h room positive so_far =
     ∙ sym (heavy_some 0 (take k ws) (slice_index ws k) positive)
     ∙ ap (heavy_from 0) (sym (take_more ws k 0 h))
 
--- there is one
-pub heavy_count : (v : VolumeInfo) (bricks : List ℕ) (n k : ℕ) → IsVolume v → length v.names ≤ k → take n bricks ≡ heavy_from 0 (take k v.weights) → 0 < n
-heavy_count v bricks zero k good all so_far =
-    let whole : take k v.weights ≡ v.weights = let weighed = good.weighed in take_all k v.weights (omega arith) in
-    let positive = heavy_positive v.weights good.heavy in
-    let same : length (take 0 bricks) ≡ length (heavy_from 0 v.weights) = ap length (so_far ∙ ap (heavy_from 0) whole) in
-    absurd (omega arith)
-heavy_count v bricks (suc n) k good all so_far = omega arith
-
--- a volume weighs at most 32,000
-pub sum_light : (v : VolumeInfo) → IsVolume v → sum v.weights ≤ 32000
-sum_light v good =
-    let few = good.few in
-    let weighed = good.weighed in
-    let most = sum_by-le (λ x. x) 1000 v.weights good.light in
+-- weights of 16 bits, of 32 bricks at most, are below 2 ^ 21 together
+pub sum_few : (ws : List ℕ) → ((k : ℕ) → slice_index ws k < 65536) → length ws ≤ 32 → sum ws ≤ 2097120
+sum_few ws each few =
+    let most = sum_by-le (λ x. x) 65535 ws (λ k d h. let same = get_or_default ws k d 0 h in let small = each k in omega arith) in
     omega arith
 
 -- a prefix of the bricks is turned
@@ -73,3 +61,14 @@ order_is ws bricks turned_bricks dir n few positive heavy turned =
     ∙ turned
     ∙ ap (rotated (turn dir n)) heavy
     ∙ ap (λ (k : ℕ). rotated (turn dir k) (heavy_from 0 ws)) count
+
+rotated_none : (n : ℕ) → rotated n [] ≡ []
+rotated_none zero = refl
+rotated_none (suc n) = refl
+
+-- where no brick has weight, none has a place in the order
+pub order_none : (ws bricks : List ℕ) (dir : Gfid) (n : ℕ) → n ≤ 0 → take n bricks ≡ heavy_from 0 ws → take n bricks ≡ order ws dir
+unfolding order
+order_none ws bricks dir zero none heavy =
+    sym (rotated_none (turn dir 0)) ∙ ap (λ (bs : List ℕ). rotated (turn dir (length bs)) bs) heavy
+order_none ws bricks dir (suc n) none heavy = absurd (omega arith)

@@ -10,12 +10,14 @@ use Rattle.std.proofs.lemmas.List.Sums.{sum_by-cons, sum_by_more, sum_by_more_le
 use Rattle.std.proofs.lemmas.List.Quantifiers.{position-Some}
 use Rattle.dht_types.specs.declared.identifiers.Gfid.{Gfid}
 use Rattle.dht_xattr.specs.declared.range.Range.{Range}
-use Rattle.dht_xattr.specs.Range.{contains}
-use Rattle.dht_xattr.specs.Layout.{holder, covers}
+use Rattle.std.specs.Option.{option_and_then}
+use Rattle.dht_xattr.specs.Range.{contains, decoded}
+use Rattle.dht_xattr.specs.Layout.{holder, covers, HasHole, HasOverlap}
 use Rattle.dht_xattr.proofs.LayoutLaws.{count_one, first_place, holder_some}
-use Rattle.dht_xattr.proofs.OrderLaws.{AreApart, order_apart, order_within, order_weighs, order_some, order_sum}
+use Rattle.dht_xattr.proofs.OrderLaws.{AreApart, order_apart, order_within, order_weighs, order_some, order_heavy, order_sum}
 use Rattle.dht_types.specs.Volume.{HasWeight}
-use Rattle.dht_xattr.specs.Plan.{IsPlanned, order, share, start, rest_from, run_of, range_in_turn, dealt_range, ranges_from, planned}
+use Rattle.dht_xattr.proofs.RangeLaws.{decoded_encoded}
+use Rattle.dht_xattr.specs.Plan.{IsPlanned, value_of, order, share, start, rest_from, run_of, range_in_turn, dealt_range, ranges_from, planned}
 
 length_ranges : (ws os : List ℕ) (b n : ℕ) → length (ranges_from ws os b n) ≡ n
 length_ranges ws os b zero = refl
@@ -241,3 +243,28 @@ planned_light ws dir b inside weightless =
     let size = planned_length ws dir in
     slice_get-get_or (planned ws dir) b None (omega arith)
     ∙ ap Some (planned_at ws dir b None inside ∙ light_none ws dir b (position (λ c. c == b) (order ws dir)) weightless refl)
+
+range_read : (o : Option Range) → IfSome o IsPlanned → option_and_then decoded (value_of o) ≡ o
+range_read None good = refl
+range_read (Some r) good = decoded_encoded r good.range.committed good.range.ordered good.range.below
+
+dealt_read : (ws : List ℕ) (dir : Gfid) (b : ℕ) (o : Option ℕ) → position (λ c. c == b) (order ws dir) ≡ o
+    → option_and_then decoded (value_of (dealt_range ws (order ws dir) o)) ≡ dealt_range ws (order ws dir) o
+dealt_read ws dir b None at = refl
+dealt_read ws dir b (Some p) at =
+    let place = (position-Some (λ c. c == b) (order ws dir) p 0 at).0 in
+    range_read (range_in_turn ws (order ws dir) p) (place_valid ws dir p (order_heavy ws dir p place) place)
+
+-- the attribute of a range of the plan is read as that range
+pub planned_read : (ws : List ℕ) (dir : Gfid) → All (λ range. option_and_then decoded (value_of range) ≡ range) (planned ws dir)
+planned_read ws dir k d h =
+    let size = planned_length ws dir in
+    subst (λ (o : Option Range). option_and_then decoded (value_of o) ≡ o) (sym (planned_at ws dir k d (omega arith)))
+    (dealt_read ws dir k (position (λ c. c == k) (order ws dir)) refl)
+
+-- no hash is in no range of the plan, and none in two
+pub planned_no_hole : (ws : List ℕ) (dir : Gfid) → HasWeight ws → ¬ HasHole (planned ws dir)
+planned_no_hole ws dir heavy (h, below, none) = let once = planned_once ws dir h heavy below in omega arith
+
+pub planned_no_overlap : (ws : List ℕ) (dir : Gfid) → HasWeight ws → ¬ HasOverlap (planned ws dir)
+planned_no_overlap ws dir heavy (h, below, two) = let once = planned_once ws dir h heavy below in omega arith

@@ -1,15 +1,14 @@
 -- How a plan is made, from one place of the order to the next.
 use Rattle.std.proofs.Common.{◌≡◌, ◌≢◌, ℕ, ◌+◌, ◌<◌, ◌≤◌, ◌==◌, nat_lt, if◌then◌else◌, List, length, get_or, take, set, refl, sym, ap, ◌∙◌, arith, ⊎_elim}
-use Rattle.std.specs.Prelude.{Option, Some, None, position, slice_index, replicate}
+use Rattle.std.specs.Prelude.{Option, Some, None, position, sum, slice_index, replicate}
 use Rattle.std.proofs.lemmas.Bool.{cases_lt, cases_eq, lt-ltb, le-ltb, eqb-true, cond-true, cond-false}
 use Rattle.std.proofs.lemmas.List.{same_lists, length-set, length-take-le, get_or-take, get_or-set_same, get_or-set_other, get_or-replicate}
 use Rattle.std.proofs.lemmas.List.Quantifiers.{position-Some}
 use Rattle.dht_types.specs.declared.identifiers.Gfid.{Gfid}
-use Rattle.dht_types.specs.Volume.{VolumeInfo, IsVolume}
 use Rattle.dht_xattr.specs.declared.range.Range.{Range}
-use Rattle.dht_xattr.proofs.OrderLaws.{AreApart, order_within}
+use Rattle.dht_xattr.proofs.OrderLaws.{AreApart, order_within, order_heavy}
 use Rattle.dht_xattr.specs.Plan.{order, share, start, rest_from, run_of, range_in_turn, dealt_range, planned}
-use Rattle.dht_xattr.proofs.PlanLaws.{start_more, start_below, place_is, planned_length, planned_at}
+use Rattle.dht_xattr.proofs.PlanLaws.{sum_positive, start_more, start_below, place_is, planned_length, planned_at}
 
 -- the range of a brick, where the places before p have theirs
 abbrev pub dealt : List ℕ → List ℕ → ℕ → Option ℕ → Option Range
@@ -80,28 +79,40 @@ AreDealt-planned ws dir p n ranges bricks room all dealt_so =
 pub order_size : (os bricks : List ℕ) (n : ℕ) → take n bricks ≡ os → n ≤ length bricks → length os ≡ n
 order_size os bricks n same few = ap length (sym same) ∙ length-take-le n bricks few
 
+-- the brick at a place of the order is one of those that have a weight
+pub placed_within : (ws : List ℕ) (dir : Gfid) (bricks : List ℕ) (n p : ℕ) → take n bricks ≡ order ws dir → n ≤ length bricks → p < n → slice_index bricks p < length ws
+placed_within ws dir bricks n p same few place =
+    let size = order_size (order ws dir) bricks n same few in
+    let inside = order_within ws dir p 0 (omega arith) in
+    let brick = ap (λ (xs : List ℕ). slice_index xs p) (sym same) ∙ get_or-take n bricks p 0 place in
+    omega arith
+
+pub placed_weighs : (ws : List ℕ) (dir : Gfid) (bricks : List ℕ) (n p : ℕ) → take n bricks ≡ order ws dir → n ≤ length bricks → p < n → 0 < sum ws
+placed_weighs ws dir bricks n p same few place =
+    let size = order_size (order ws dir) bricks n same few in
+    sum_positive ws (order_heavy ws dir p (omega arith))
+
 -- what is known at a place of the order: its brick, and the first hash of the place behind it
-pub record Step (v : VolumeInfo) (dir : Gfid) (bricks : List ℕ) (n p first count : ℕ) : Type 0 where
-  pub size : length (order v.weights dir) ≡ n
-  pub brick : slice_index (order v.weights dir) p ≡ slice_index bricks p
+pub record Step (ws : List ℕ) (dir : Gfid) (bricks : List ℕ) (n p first count : ℕ) : Type 0 where
+  pub size : length (order ws dir) ≡ n
+  pub brick : slice_index (order ws dir) p ≡ slice_index bricks p
   pub small : slice_index bricks p < 32
-  pub share : count ≡ share v.weights (slice_index (order v.weights dir) p)
-  pub next : first + count ≡ start v.weights (order v.weights dir) (p + 1)
+  pub share : count ≡ share ws (slice_index (order ws dir) p)
+  pub next : first + count ≡ start ws (order ws dir) (p + 1)
   pub most : first + count ≤ 4294967295
 
-pub step_at : (v : VolumeInfo) (dir : Gfid) (bricks : List ℕ) (n p first count : ℕ) → IsVolume v → take n bricks ≡ order v.weights dir → n ≤ length bricks → p < n
-    → first ≡ start v.weights (order v.weights dir) p → count ≡ share v.weights (slice_index bricks p) → Step v dir bricks n p first count
-step_at v dir bricks n p first count good same few place begin part =
-    let os = order v.weights dir in
+pub step_at : (ws : List ℕ) (dir : Gfid) (bricks : List ℕ) (n p first count : ℕ) → length ws ≤ 32 → take n bricks ≡ order ws dir → n ≤ length bricks → p < n
+    → first ≡ start ws (order ws dir) p → count ≡ share ws (slice_index bricks p) → Step ws dir bricks n p first count
+step_at ws dir bricks n p first count volume same few place begin part =
+    let os = order ws dir in
     let size : length os ≡ n = order_size os bricks n same few in
     let brick : slice_index os p ≡ slice_index bricks p = ap (λ (xs : List ℕ). slice_index xs p) (sym same) ∙ get_or-take n bricks p 0 place in
-    let inside = order_within v.weights dir p 0 (omega arith) in
-    let volume = good.few in
-    let weighed = good.weighed in
-    let count_is : count ≡ share v.weights (slice_index os p) = part ∙ ap (share v.weights) (sym brick) in
-    let more = start_more v.weights os p (omega arith) in
-    let below = start_below v.weights dir (p + 1) good.heavy in
-    let next : first + count ≡ start v.weights os (p + 1) = ap (λ (f : ℕ). f + count) begin ∙ ap (λ (k : ℕ). start v.weights os p + k) count_is ∙ sym more in
+    let inside = placed_within ws dir bricks n p same few place in
+    let heavy = order_heavy ws dir p (omega arith) in
+    let count_is : count ≡ share ws (slice_index os p) = part ∙ ap (share ws) (sym brick) in
+    let more = start_more ws os p (omega arith) in
+    let below = start_below ws dir (p + 1) heavy in
+    let next : first + count ≡ start ws os (p + 1) = ap (λ (f : ℕ). f + count) begin ∙ ap (λ (k : ℕ). start ws os p + k) count_is ∙ sym more in
     record { size = size; brick = brick; small = omega arith; share = count_is; next = next; most = omega arith }
 
 -- the range that goes to a place is that of the plan

@@ -4,10 +4,12 @@ ghost use Rattle.std.specs.Prelude.{◌≡◌, ◌≤◌, ◌<◌, [], ◌∷◌
 ghost use Rattle.dht_xattr.specs.declared.range.Range.{Range};
 ghost use Rattle.dht_xattr.specs.Range.{contains};
 ghost use Rattle.dht_xattr.specs.Layout.{holder, covers};
+ghost use Rattle.dht_xattr.specs.Plan.{value_of};
 ghost use Rattle.dht_types.specs.Padded.{padded};
 
 use super::range::Range;
 use dht_types::identifiers::BrickNo;
+use dht_types::layouts::LayoutValue;
 use std::marker::Model;
 
 /// The most ranges that a layout has: one for each brick of the largest volume.
@@ -89,6 +91,17 @@ impl Layout {
         ensures few { length self.now ≤ 32 }
     {
         &self.places[..usize::from(self.count)]
+    }
+
+    /// The attribute of a brick: the value of its range, and none where it has no range. It takes no
+    /// memory.
+    pub fn value(&self, brick: BrickNo) -> Option<LayoutValue>
+        ensures { result ≡ value_of (slice_index_or self.now brick.0 None) }
+    {
+        match self.as_slice().get(usize::from(brick.0)) {
+            Some(Some(range)) => Some(range.value()),
+            _ => None,
+        }
     }
 }
 

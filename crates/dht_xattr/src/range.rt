@@ -5,6 +5,7 @@ ghost use Rattle.dht_xattr.specs.declared.range.Range.{Range};
 ghost use Rattle.dht_xattr.specs.Range.{IsRange, contains, encoded, decoded};
 
 use byteorder::{BigEndian, ByteOrder};
+use dht_types::layouts::LayoutValue;
 
 /// How many bytes a range has.
 pub const RANGE_LEN: usize = 16;
@@ -31,12 +32,18 @@ impl Range {
     {
         self.first <= hash && hash <= self.last
     }
+
+    /// Its value, of the bytes that `encode` gives. It takes no memory.
+    pub fn value(self) -> LayoutValue
+        ensures { result ≡ encoded self }
+    {
+        LayoutValue::new(encode(self))
+    }
 }
 
 /// The bytes of a range, as GlusterFS's attribute `trusted.glusterfs.dht`: four numbers of 32 bits,
 /// the highest byte first, which are the commit word, the type, the first and the last hash.
 pub fn encode(range: Range) -> [u8; 16]
-    requires { range.first ≤ range.last }
     ensures { result ≡ encoded range }
 {
     let mut value = [0u8; 16];

@@ -4,7 +4,7 @@ use Rattle.dht_xattr.proofs.plan.heavy.Given as goal
 
 abbrev pub invariant-loop-brick : goal.invariant-loop-brick
 invariant-loop-brick l = record {
-  bricks : take l.count l.bricks ≡ heavy_from 0 (take l.brick l.volume.weights);
+  bricks : take l.count l.bricks ≡ heavy_from 0 (take l.brick l.weights);
   count : l.count ≤ l.brick;
   size : length l.bricks ≡ 32;
 }

@@ -1,5 +1,5 @@
 use Rattle.std.proofs.Common.{sym, subst, ◌∙◌}
-use Rattle.dht_resolve.proofs.LookupNotes.{lookup_again, lookup_folder, lookup_found, lookup_learns, lookup_notes}
+use Rattle.dht_resolve.proofs.LookupNotes.{unanswered_again, lookup_folder, lookup_found, lookup_learns, lookup_notes}
 use Rattle.dht_resolve.proofs.LookupSteps.{lookup_moves}
 use Rattle.dht_resolve.specs.Found.{IsDirFound, IsFound}
 use Rattle.dht_resolve.specs.Lookup.{ended_turn, lookup_fault, lookup_layout, lookup_stage, lookup_taught, resolved}
@@ -24,4 +24,4 @@ pub returns-clause-folder : goal.returns-clause-folder
 returns-clause-folder c = λ g h. subst (λ turn. IsDirFound g c.args.at (ended_turn turn)) (sym c.after.ensures) (lookup_folder c.args.self c.args.reply c.args.at g h)
 
 pub returns-clause-again : goal.returns-clause-again
-returns-clause-again c = λ h. c.after.ensures ∙ lookup_again c.args.self c.args.reply c.args.at h
+returns-clause-again c = λ h. c.after.ensures ∙ unanswered_again c.args.self c.args.reply c.args.at h

@@ -1,4 +1,4 @@
-use Rattle.std.proofs.Common.{◌≡◌, ◌≤◌, ◌+◌, ◌++◌, ℕ, length, take, ap, ◌∙◌, sym, subst, arith}
+use Rattle.std.proofs.Common.{◌≡◌, ◌++◌, ℕ, length, take, ap, ◌∙◌, sym, subst, arith}
 use Rattle.dht_types.specs.Padded.{IsPadded, longer_padded, longer_is, length_back}
 use Rattle.dht_types.proofs.linktos.LinktoValue.with.Goals as goal
 

@@ -1,0 +1,13 @@
+pub mod InfoSteps
+pub mod CopySteps
+pub mod MeasureSteps
+pub mod MakeSteps
+pub mod MkdirSteps
+pub mod EmptyLaws
+pub mod DropOrder
+pub mod InspectSteps
+pub mod DropRows
+pub mod DropSteps
+pub mod LookupPart
+pub mod RmdirSteps
+pub mod RmdirNotes

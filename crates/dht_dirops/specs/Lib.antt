@@ -1,0 +1,4 @@
+pub mod Mkdir
+pub mod MkdirLaws
+pub mod Rmdir
+pub mod RmdirLaws

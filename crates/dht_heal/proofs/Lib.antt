@@ -1,0 +1,13 @@
+pub mod HealOneRequests
+pub mod MissingLaws
+pub mod FolderLaws
+pub mod HealOneKnows
+pub mod HealOneSteps
+pub mod CopyLaws
+pub mod PathLaws
+pub mod HealOneParts
+pub mod HealBeginning
+pub mod HealSteps
+pub mod HealNotes
+pub mod CallSteps
+pub mod RestartSteps

@@ -1,0 +1,1 @@
+use Rattle.dht_heal.proofs.call.HealCall.begin.Goals as goal
