@@ -1,5 +1,5 @@
 -- The first step of a client.
-use Rattle.std.proofs.Common.{◌≡◌, ◌<◌, ◌≤◌, ◌+◌, ◌*◌, ◌^◌, ℕ, List, length, refl, sym, ◌∙◌, ap, arith, Bool, true, false, subst}
+use Rattle.std.proofs.Common.{◌≡◌, ◌<◌, ◌≤◌, ◌+◌, ◌*◌, ◌^◌, ℕ, List, [], ◌∷◌, length, refl, sym, ◌∙◌, ap, arith, Bool, true, false, subst}
 use Rattle.std.specs.Prelude.{Option, Some, None, is_some, nat_lt, ◌==◌, if◌then◌else◌}
 use Rattle.dht_types.specs.Calls.{directory_of, first_refusal, refusal_at_once, refusal_at_start, refusal_of_home}
 use Rattle.dht_types.specs.Cost.{cost}
@@ -26,6 +26,8 @@ use Rattle.dht_section.specs.declared.location.Location.{Location}
 use Rattle.dht_section.specs.declared.machine.Ask.{Ask}
 use Rattle.dht_section.specs.declared.section.Prepared.{Prepared}
 use Rattle.dht_resolve.proofs.LookupSteps.{first_knows as lookup_knows, first_steps as lookup_bound}
+use Rattle.dht_resolve.proofs.WaySteps.{way_first}
+use Rattle.dht_resolve.specs.Cache.{CachedLayout, layout_at}
 use Rattle.dht_resolve.specs.Lookup.{aimed_at, first_lookup, holder_in, lookup_fault, lookup_layout, lookup_stage}
 use Rattle.dht_resolve.specs.LookupName.{lookup_location}
 use Rattle.dht_resolve.specs.declared.lookup.Lookup.{Lookup as ALookup}
@@ -39,8 +41,8 @@ use Rattle.dht_fileops.proofs.CreateSteps.{first_knows as create_knows, first_st
 use Rattle.dht_fileops.proofs.UnlinkSteps.{first_knows as unlink_knows, first_starts as unlink_starts}
 use Rattle.dht_dirops.proofs.MkdirSteps.{first_knows as mkdir_knows, first_starts as mkdir_starts}
 use Rattle.dht_dirops.proofs.RmdirNotes.{first_knows as rmdir_knows}
-use Rattle.dht_client.specs.Client.{client_layout, first_ask, first_claim, first_heal_ask, first_lock, first_look, first_program, first_sought, is_lookup_call, most_sought, most_steps, origin_of}
-use Rattle.dht_client.specs.Program.{IsLookup, IsNoHeal, is_lookup, program_fault, program_layout, program_stage}
+use Rattle.dht_client.specs.Client.{client_is_new, client_layout, first_ask, first_claim, first_heal_ask, first_lock, first_look, first_program, first_sought, is_lookup_call, knows_none, most_sought, most_steps, origin_of}
+use Rattle.dht_client.specs.Program.{IsLookup, IsNoHeal, IsNoLookup, is_lookup, program_fault, program_layout, program_stage, program_way}
 use Rattle.dht_client.specs.declared.calling.Client.{Client}
 
 -- a fact of each lookup that knows the layout
@@ -79,13 +81,13 @@ room_is : (ws : List ℕ) (s : Scene) → s.history.weights ≡ ws → IsRoom (f
 room_is ws s e = record { path = refl; weights = sym e }
 
 -- a call is of a client in a run
-comes_of : (c : Client) (ws : List ℕ) (run : ℕ) (k : CallNo) (what : Call Gfid) (s : Scene) → k.0 < 2 ^ 64 → Begins c.number ws run k what s → ComesFrom (origin_of c run k) s
+comes_of : (c : Client) (ws : List ℕ) (run : ℕ) (k : CallNo) (what : Call Gfid) (s : Scene) → k.0 < 2 ^ 64 → Begins c.number (client_is_new c) ws run k what s → ComesFrom (origin_of c run k) s
 comes_of c ws run k what s small b = record { run = sym b.run; client = sym b.who; number = sym b.number; small = small }
 
 no_heal : (what : Call Gfid) (s : Scene) → s.mine.call ≡ what → ((d : Gfid) → what ≡ Heal d → ⊥) → IsNoHeal s
 no_heal what s e h = λ d k. h d (sym e ∙ k)
 
-pub first_knows : (c : Client) (ws : List ℕ) (run : ℕ) (k : CallNo) (what : Call Gfid) (s : Scene) → k.0 < 2 ^ 64 → length ws ≤ 32 → refusal_at_start (length ws) what ≡ None → Begins c.number ws run k what s → (program_stage (first_program c ws run k what)).knows s
+pub first_knows : (c : Client) (ws : List ℕ) (run : ℕ) (k : CallNo) (what : Call Gfid) (s : Scene) → k.0 < 2 ^ 64 → length ws ≤ 32 → refusal_at_start (length ws) what ≡ None → Begins c.number (client_is_new c) ws run k what s → (program_stage (first_program c ws run k what)).knows s
 unfolding program_stage
 first_knows c ws run k (Lookup d n) s small few e b = (lookup_knows (located (length ws) d n) (client_layout c d) s (record { count = ap length b.weights; home = call_home (length ws) (Lookup d n) e; deeds = b.fresh }), of_name (client_layout c d) b.call)
   where
@@ -122,6 +124,25 @@ first_knows c ws run k (Heal d) s small few e b = heal_knows ws (length ws) d s 
   call = b.call;
   deeds = b.fresh;
 })
+
+-- ---- where it is on the way of a first lookup
+
+no_layout : (xs : List CachedLayout) (d : Gfid) → knows_none xs ≡ true → layout_at xs d ≡ None
+no_layout [] d e = refl
+no_layout (x ∷ xs) d e = absurd (let z : false ≡ true = e in cc)
+
+no_lookup : (what : Call Gfid) (s : Scene) → s.mine.call ≡ what → ((d : Gfid) (n : List ℕ) → what ≡ Lookup d n → ⊥) → IsNoLookup s
+no_lookup what s e h = λ d n k. h d n (sym e ∙ k)
+
+-- a client that is new knows no layout
+pub first_way : (c : Client) (ws : List ℕ) (run : ℕ) (k : CallNo) (what : Call Gfid) (s : Scene) → Begins c.number (client_is_new c) ws run k what s → program_way (first_program c ws run k what) s
+unfolding program_way
+first_way c ws run k (Lookup d n) s b = way_first (located (length ws) d n) (client_layout c d) s b.steps (λ first. no_layout c.cache d (b.first first))
+first_way c ws run k (Create d n) s b = no_lookup (Create d n) s b.call (λ g m z. cc)
+first_way c ws run k (Mkdir d n) s b = no_lookup (Mkdir d n) s b.call (λ g m z. cc)
+first_way c ws run k (Unlink d n) s b = no_lookup (Unlink d n) s b.call (λ g m z. cc)
+first_way c ws run k (Rmdir d n) s b = no_lookup (Rmdir d n) s b.call (λ g m z. cc)
+first_way c ws run k (Heal d) s b = no_lookup (Heal d) s b.call (λ g m z. cc)
 
 -- ---- what it asks and claims, and how many requests it sends
 

@@ -31,7 +31,7 @@ use Rattle.dht_fileops.specs.Create.{first_create}
 use Rattle.dht_fileops.specs.Unlink.{first_unlink}
 use Rattle.dht_dirops.specs.Mkdir.{first_mkdir}
 use Rattle.dht_dirops.specs.Rmdir.{first_rmdir}
-use Rattle.dht_client.specs.Program.{is_lookup, program_stage, program_fault, program_layout, program_taught}
+use Rattle.dht_client.specs.Program.{is_lookup, on_way, program_fault, program_layout, program_taught}
 use Rattle.dht_client.specs.declared.program.Program.{Program}
 use Rattle.dht_client.specs.declared.program.Program.TheVariants.{LookingUp, Creating, Making, Unlinking, Removing, Healing}
 use Rattle.dht_client.specs.declared.calling.Client.{Client}
@@ -48,6 +48,15 @@ client_cache c = c.cache
 abbrev pub client_layout : Client → Gfid → Option (List (Option Range))
 client_layout c g = layout_at c.cache g
 
+-- there is none
+abbrev pub knows_none : List CachedLayout → Bool
+knows_none [] = true
+knows_none (x ∷ xs) = false
+
+-- it knows no layout
+abbrev pub client_is_new : Client → Bool
+client_is_new c = knows_none c.cache
+
 abbrev pub client_is_busy : Client → Bool
 client_is_busy c = is_some c.pending
 
@@ -59,7 +68,7 @@ running_stage None = record {
   variant = 0;
   knows = λ s. Unit {0};
 }
-running_stage (Some x) = program_stage x.program
+running_stage (Some x) = on_way x.program
 
 abbrev pub client_stage : Client → Stage
 client_stage c = running_stage c.pending

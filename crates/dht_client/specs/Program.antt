@@ -1,16 +1,19 @@
 -- Where a program is: where its call is, and which call that is. These do not unfold by themselves, so
 -- that no proof above looks into a call.
-use Rattle.std.specs.Prelude.{◌≡◌, Bool, true, false, Option, List}
+use Rattle.std.specs.Prelude.{ℕ, ◌≡◌, Bool, true, false, Option, List}
 use Rattle.dht_types.specs.declared.calls.Call.TheVariants as call
 use Rattle.dht_types.specs.declared.errors.Errno.{Errno}
 use Rattle.dht_types.specs.declared.identifiers.Gfid.{Gfid}
 use Rattle.dht_brick.specs.declared.replies.Reply.{Reply}
 use Rattle.dht_xattr.specs.declared.range.Range.{Range}
+use Rattle.dht_section.specs.FirstLookup.{FindsSoon}
 use Rattle.dht_section.specs.Parts.{as_part}
 use Rattle.dht_section.specs.Scene.{Scene}
-use Rattle.dht_section.specs.Stages.{Ending, Stage, call_answered}
+use Rattle.dht_section.specs.Stages.{Ending, MatchTurn, Served, Stage, call_answered}
 use Rattle.dht_section.specs.declared.ended.Ended.{Ended}
 use Rattle.dht_section.specs.declared.location.Location.{Location}
+use Rattle.dht_section.specs.declared.machine.Turn.{Turn}
+use Rattle.dht_resolve.specs.FirstWay.{OnWay}
 use Rattle.dht_resolve.specs.Lookup.{lookup_stage, lookup_fault, lookup_layout, lookup_taught}
 use Rattle.dht_resolve.specs.LookupName.{lookup_location}
 use Rattle.dht_fileops.specs.Create.{create_stage, create_fault, create_layout, create_taught}
@@ -28,6 +31,10 @@ IsLookup l s = s.mine.call ≡ call.Lookup l.directory l.name
 -- the call is no heal
 abbrev pub IsNoHeal : Scene → Type 0
 IsNoHeal s = (d : Gfid) → s.mine.call ≡ call.Heal d → ⊥
+
+-- the call is no lookup
+abbrev pub IsNoLookup : Scene → Type 0
+IsNoLookup s = (d : Gfid) (n : List ℕ) → s.mine.call ≡ call.Lookup d n → ⊥
 
 -- a call that is no heal, whose program is at this stage
 abbrev pub without_heal : Stage → Stage
@@ -80,3 +87,18 @@ program_taught (Making m) r = mkdir_taught m r
 program_taught (Unlinking m) r = unlink_taught m r
 program_taught (Removing m) r = rmdir_taught m r
 program_taught (Healing m) r = call_taught m r
+
+-- where it is on the way of a first lookup, if it is a lookup
+unfoldable pub program_way : Program → Scene → Type 0
+program_way (LookingUp m) s = OnWay m s
+program_way m s = IsNoLookup s
+
+-- a client's call with this program
+abbrev pub on_way : Program → Stage
+on_way p = as_part (program_stage p) 0 (λ s. program_way p s)
+
+-- it stays on its way, and in the end it has found a file that is placed in time, if it was a first lookup
+abbrev pub KeepsWay : Program → Reply → ℕ → Turn Program Ended → Type 0
+KeepsWay p r at turn =
+    (s t : Scene) → Served (program_stage p) r at s t → program_way p s
+    → MatchTurn turn (λ n. program_way n t) (λ d. FindsSoon d.finish t)

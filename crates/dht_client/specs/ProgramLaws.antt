@@ -1,5 +1,5 @@
 -- The laws of a program: those of its call.
-use Rattle.std.proofs.Common.{◌<◌, ◌∙◌, ℕ, List, sym, arith}
+use Rattle.std.proofs.Common.{◌≡◌, ◌<◌, ◌∙◌, ℕ, List, sym, arith}
 use Rattle.std.specs.Prelude.{Option, Some, None}
 use Rattle.dht_xattr.specs.declared.range.Range.{Range}
 use Rattle.dht_section.specs.Closing.{closing_stage}
@@ -9,6 +9,7 @@ use Rattle.dht_section.specs.Scene.{Scene}
 use Rattle.dht_section.specs.Stages.{Stage, MaySend, IsStable}
 use Rattle.dht_section.specs.declared.closing.Closing.{Closing}
 use Rattle.dht_section.specs.declared.location.Location.{Location}
+use Rattle.dht_resolve.specs.FirstWayLaws.{way_stable}
 use Rattle.dht_resolve.specs.Lookup.{lookup_stage}
 use Rattle.dht_resolve.specs.LookupLaws.{lookup_permitted, lookup_stable}
 use Rattle.dht_resolve.specs.LookupName.{lookup_location}
@@ -36,7 +37,7 @@ use Rattle.dht_dirops.specs.declared.rmdir.Rmdir.{Rmdir}
 use Rattle.dht_dirops.specs.declared.rmdir.Rmdir.TheVariants as rmdir
 use Rattle.dht_client.specs.declared.program.Program.{Program}
 use Rattle.dht_client.specs.declared.program.Program.TheVariants.{LookingUp, Creating, Making, Unlinking, Removing, Healing}
-use Rattle.dht_client.specs.Program.{IsLookup, IsNoHeal, program_stage, without_heal}
+use Rattle.dht_client.specs.Program.{IsLookup, IsNoHeal, IsNoLookup, program_stage, program_way, without_heal}
 
 -- ---- which call it is stays so
 
@@ -45,6 +46,9 @@ still_lookup l s t h o = o.mine.call ∙ h
 
 still_no_heal : (s t : Scene) → IsNoHeal s → Rely s t → IsNoHeal t
 still_no_heal s t h o = λ d e. h d (sym o.mine.call ∙ e)
+
+still_no_lookup : (s t : Scene) → IsNoLookup s → Rely s t → IsNoLookup t
+still_no_lookup s t h o = λ d n e. h d n (sym o.mine.call ∙ e)
 
 beside_permitted : (x : Stage) → MaySend x → MaySend (without_heal x)
 beside_permitted x may = part_permitted x 0 IsNoHeal may
@@ -69,6 +73,16 @@ program_stable (Making m) s t h o = beside_stable (mkdir_stage m) (mkdir_stable 
 program_stable (Unlinking m) s t h o = beside_stable (unlink_stage m) (unlink_stable m) s t h o
 program_stable (Removing m) s t h o = beside_stable (rmdir_stage m) (rmdir_stable m) s t h o
 program_stable (Healing m) s t h o = call_stable m s t h o
+
+-- what others may do leaves its way
+pub program_way_stable : (m : Program) (s t : Scene) → program_way m s → Rely s t → t.mine.steps ≡ s.mine.steps → program_way m t
+unfolding program_way
+program_way_stable (LookingUp m) s t h o steps = way_stable m s t h o steps
+program_way_stable (Creating m) s t h o steps = still_no_lookup s t h o
+program_way_stable (Making m) s t h o steps = still_no_lookup s t h o
+program_way_stable (Unlinking m) s t h o steps = still_no_lookup s t h o
+program_way_stable (Removing m) s t h o steps = still_no_lookup s t h o
+program_way_stable (Healing m) s t h o steps = still_no_lookup s t h o
 
 -- ---- it sends another request
 

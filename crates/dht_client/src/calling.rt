@@ -13,7 +13,7 @@ ghost use Rattle.dht_section.specs.Location.{located};
 ghost use Rattle.dht_section.specs.Scene.{Scene};
 ghost use Rattle.dht_section.specs.Stages.{CallMoves};
 ghost use Rattle.dht_resolve.specs.Found.{ShowsDir, ShowsFile, dir_at};
-ghost use Rattle.dht_client.specs.Client.{CallLearns, IsLearned, client_cache, client_directory, client_fault, client_is_busy, client_layout, client_learned, client_looks_up, client_number, client_stage, first_ask, first_claim, first_program, is_lookup_call, most_steps, subject_of};
+ghost use Rattle.dht_client.specs.Client.{CallLearns, IsLearned, client_cache, client_directory, client_fault, client_is_busy, client_is_new, client_layout, client_learned, client_looks_up, client_number, client_stage, first_ask, first_claim, first_program, is_lookup_call, most_steps, subject_of};
 ghost use Rattle.dht_client.specs.ClientLaws.{client_goes_on, client_permitted, client_stable};
 
 use super::program::Program;
@@ -204,11 +204,14 @@ impl Caller for Client {
 
     ghost is_busy = { client_is_busy };
 
+    ghost is_new = { client_is_new };
+
     ghost stage = { client_stage };
 
     fn new(client: ClientNo) -> Client
         ensures number { client_number result ≡ client }
         ensures idle { client_is_busy result ≡ false }
+        ensures unread { client_is_new result ≡ true }
         // it knows no layout
         ensures cache { client_cache result ≡ [] }
     {
@@ -238,7 +241,7 @@ impl Caller for Client {
         ensures busy { client_is_busy self.new ≡ is_ok result }
         ensures copy { OnOk result ((client_stage self.new).claims.copy ≡ None) }
         ensures knows { OnOk result ((s : Scene)
-            → Begins (client_number self.old) weights.now run call what.now s
+            → Begins (client_number self.old) (client_is_new self.old) weights.now run call what.now s
             → (client_stage self.new).knows s) }
         ensures variant { OnOk result ((client_stage self.new).variant
             ≤ cost (length weights.now) what.now) }

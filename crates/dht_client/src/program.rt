@@ -9,7 +9,7 @@ ghost use Rattle.dht_section.specs.Ended.{Learns};
 ghost use Rattle.dht_section.specs.Faults.{NotesFault};
 ghost use Rattle.dht_resolve.specs.Found.{IsDirFound, IsFound, ShowsDir, ShowsFile};
 ghost use Rattle.dht_resolve.specs.Lookup.{as_ended};
-ghost use Rattle.dht_client.specs.Program.{is_lookup, program_ended, program_fault, program_layout, program_stage, program_taught};
+ghost use Rattle.dht_client.specs.Program.{KeepsWay, is_lookup, program_ended, program_fault, program_layout, program_stage, program_taught};
 ghost use Rattle.dht_client.specs.ProgramLaws.{program_permitted, program_stable};
 
 use dht_brick::replies::Reply;
@@ -69,6 +69,8 @@ impl Machine for Program {
         ensures layout { Learns program_layout program_taught self reply result }
         ensures fault { NotesFault program_fault self (program_stage self).asks.request
             reply result }
+        // a first lookup stays on its way, and finds a file that is placed in time
+        ensures way { KeepsWay self reply at result }
         // it is a lookup, or none, up to its end
         ensures verb { MatchTurn result (λ n. is_lookup n ≡ is_lookup self) (λ d. Unit {0}) }
         // a lookup answers at once what one look shows, before any lock: a file or a directory

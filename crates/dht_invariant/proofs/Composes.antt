@@ -9,7 +9,6 @@ use Rattle.dht_types.specs.declared.identifiers.Gfid.{Gfid}
 use Rattle.dht_types.specs.declared.locks.Key.{Key}
 use Rattle.dht_types.specs.declared.locks.Key.TheVariants.{Dir, Entry as Name}
 use Rattle.dht_types.specs.declared.stored.DirRecord.{DirRecord}
-use Rattle.dht_xattr.specs.Plan.{planned}
 use Rattle.dht_brick.specs.Contents.{Contents, slot}
 use Rattle.dht_section.specs.Claims.{Claim}
 use Rattle.dht_section.specs.Disk.{Disk, slot_at, dir_at, lock_at, holders}
@@ -104,7 +103,7 @@ module _ (d e f : Disk) (s t u : History) (p q r : ℕ → Claim) (w : ClientNo)
   pub rely_on : Rely (scene d s p w x) (scene f u r w x)
   rely_on = record {
     who = refl;
-    mine = record { number = refl; call = refl; since = refl; alone = refl; was_down = refl; has_failed = refl; deeds = refl };
+    mine = record { number = refl; call = refl; since = refl; alone = refl; is_first = refl; was_down = refl; has_failed = refl; deeds = refl };
     count = two.count ∙ one.count;
     run = two.run ∙ one.run;
     weights = two.weights ∙ one.weights;

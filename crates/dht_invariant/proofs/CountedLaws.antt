@@ -89,7 +89,7 @@ counted_ended s t c h pending callers calls =
 pub counted_called : (s : History) (c k : ℕ) (call : Call Gfid) → CallsCounted s → k ≡ s.calls + 1 → CallsCounted (with_line s (Called (record { 0 = k }) (record { 0 = c }) call))
 counted_called s c k call h ek =
     let n : CallNo = record { 0 = k } in
-    let new : PendingCall = accepted s.callers (s.size + 1) n call in
+    let new : PendingCall = accepted (s.called c) s.callers (s.size + 1) n call in
     let t = with_line s (Called n (record { 0 = c }) call) in
     let cases : (w : ℕ) (r : PendingCall) → t.pending w ≡ Some r → ((w ≡ c) × (Some new ≡ Some r)) ⊎ ((w ≢ c) × (s.pending w ≡ Some r)) =
     (λ w r e. put_is s.pending c (Some new) (Some r) w e) in

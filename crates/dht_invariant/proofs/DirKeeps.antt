@@ -27,7 +27,6 @@ use Rattle.dht_section.specs.Rely as rely
 use Rattle.dht_section.specs.Rely.{IsFileUsed, IsNameless, outline}
 use Rattle.dht_section.specs.Scene.{Scene, HoldsAlone, Guards, NameStands}
 use Rattle.dht_section.specs.Shapes.{NameShape, Folder, NameFits}
-use Rattle.dht_section.specs.Truth.{plain}
 use Rattle.dht_section.specs.Views.{FileView, core, cores_of, links_to, view_of, dir_view}
 use Rattle.dht_section.proofs.SlotLaws.{entry_cases}
 use Rattle.dht_invariant.specs.Touches.{Touches, DirStays, Same, Grew}

@@ -169,7 +169,7 @@ module _ (d e : Disk) (m : SameStores d e) where
     pub rely_same : (p q : ℕ → Claim) (w : ClientNo) (r : PendingCall) → CallsCounted s → s.pending w.0 ≡ Some r → ((b : ℕ) (key : Key) → holders e b key w.0 ≡ holders d b key w.0) → Rely (scene d s p w r) (scene e t q w r)
     rely_same p q w r counts pending locks = record {
       who = refl;
-      mine = record { number = refl; call = refl; since = refl; alone = refl; was_down = refl; has_failed = refl; deeds = refl };
+      mine = record { number = refl; call = refl; since = refl; alone = refl; is_first = refl; was_down = refl; has_failed = refl; deeds = refl };
       count = m.count;
       run = h.run;
       weights = h.weights;

@@ -64,7 +64,7 @@ module _ (o : Scene) (w : ClientNo) (r : PendingCall) (ne : w.0 ≢ o.who.0) (so
   pub others_of : (e : Disk) (t : History) (q : ℕ → Claim) → Touches o e t.tree → (IsAlone t r → ⊥) → t.run ≡ o.history.run → t.weights ≡ o.history.weights → o.history.size ≤ t.size → ((j : ℕ) → j ≤ o.history.size → t.past j ≡ o.history.past j) → Rely (seen_by w r o) (scene e t q w r)
   others_of e t q h running run weights later past = record {
     who = refl;
-    mine = record { number = refl; call = refl; since = refl; alone = refl; was_down = refl; has_failed = refl; deeds = refl };
+    mine = record { number = refl; call = refl; since = refl; alone = refl; is_first = refl; was_down = refl; has_failed = refl; deeds = refl };
     count = h.count;
     run = run;
     weights = weights;

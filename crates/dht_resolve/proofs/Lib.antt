@@ -6,3 +6,4 @@ pub mod NameSteps
 pub mod LookupSteps
 pub mod LookupNotes
 pub mod ShortLaws
+pub mod WaySteps

@@ -173,11 +173,11 @@ stops x l learned turn r at s t (Some e) z claims deeds go h = ends_done x l (fa
 
 -- ---- the survey
 
-abbrev shown_reply : Option DirRecord → (DirRecord → Given) → Contents → Reply
+abbrev pub shown_reply : Option DirRecord → (DirRecord → Given) → Contents → Reply
 shown_reply o gives c = reply_in (within (with_store c) (in_dir o (λ x. Do (gives x) c.store)))
 
 -- a brick that is up shows what it has
-brick_shows : (o : Option DirRecord) (gives : DirRecord → Given) (c : Contents) → is_shown (shown_reply o gives c) ≡ true
+pub brick_shows : (o : Option DirRecord) (gives : DirRecord → Given) (c : Contents) → is_shown (shown_reply o gives c) ≡ true
 brick_shows None gives c = refl
 brick_shows (Some x) gives c = refl
 
@@ -185,10 +185,10 @@ no_record : (o : Option DirRecord) (gives : DirRecord → Given) (c : Contents) 
 no_record None gives c h = refl
 no_record (Some x) gives c h = absurd (let z : false ≡ true = h in cc)
 
-exclude : (b : Bool) → b ≡ true → b ≡ false → ⊥
+pub exclude : (b : Bool) → b ≡ true → b ≡ false → ⊥
 exclude b e k = let z : true ≡ false = sym e ∙ k in cc
 
-survey_reply : (l : Location) (p : Prepared) (b : BrickNo) (ranges : List (Option Range)) (r : Reply) (at : ℕ) (s t : Scene) → fault_of r ≡ None → Served (lookup_stage (Surveying l p b ranges)) r at s t → r ≡ shown_reply (dir (s.disk.brick b.0).store l.directory) (λ x. given.Dirinfo (info_of (s.disk.brick b.0).store l.directory x)) (s.disk.brick b.0)
+pub survey_reply : (l : Location) (p : Prepared) (b : BrickNo) (ranges : List (Option Range)) (r : Reply) (at : ℕ) (s t : Scene) → fault_of r ≡ None → Served (lookup_stage (Surveying l p b ranges)) r at s t → r ≡ shown_reply (dir (s.disk.brick b.0).store l.directory) (λ x. given.Dirinfo (info_of (s.disk.brick b.0).store l.directory x)) (s.disk.brick b.0)
 survey_reply l p b ranges r at s t z h = row_reply s t _ r h.moved z
 
 -- the home has no record of the directory

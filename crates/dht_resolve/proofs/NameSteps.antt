@@ -1,5 +1,5 @@
 -- A lookup stays one of its name.
-use Rattle.std.proofs.Common.{◌≡◌, ◌&&◌, ◌-◌, ℕ, List, Bool, true, false, refl}
+use Rattle.std.proofs.Common.{◌≡◌, ◌-◌, ℕ, List, Bool, true, false, refl}
 use Rattle.std.specs.Prelude.{Option, Some, None, nat_le, nat_lt, if◌then◌else◌}
 use Rattle.dht_types.specs.History.{is_carried}
 use Rattle.dht_types.specs.declared.errors.Errno.{Errno}
@@ -41,7 +41,7 @@ StaysAt l (Go n) = lookup_location n ≡ l
 StaysAt l (Done d) = d.answered.location ≡ l
 
 -- what holds of both branches
-of_both : {A : Type 0} (P : A → Type 0) (v : Bool) (x y : A) → P x → P y → P (if v then x else y)
+pub of_both : {A : Type 0} (P : A → Type 0) (v : Bool) (x y : A) → P x → P y → P (if v then x else y)
 of_both P true x y there elsewhere = there
 of_both P false x y there elsewhere = elsewhere
 

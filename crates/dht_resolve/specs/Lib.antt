@@ -5,3 +5,5 @@ pub mod LookupName
 pub mod Turns
 pub mod LookupLaws
 pub mod Short
+pub mod FirstWay
+pub mod FirstWayLaws

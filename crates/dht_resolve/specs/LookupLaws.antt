@@ -55,7 +55,7 @@ use Rattle.dht_section.specs.declared.section.Prepared.{Prepared}
 pub room_count : (l : Location) (p : Prepared) (s : Scene) → Sound s → IsRoom l p s → s.disk.count ≡ l.bricks
 room_count l p s sound h = bricks_are p.scope s sound h.can.fresh.scope ∙ ap (λ (w : Scoped). w.bricks) h.scope
 
-seeks_there : (l : Location) (p : Prepared) (b : BrickNo) (s : Scene) → Sound s → Seeks l p b s → b.0 < s.disk.count
+pub seeks_there : (l : Location) (p : Prepared) (b : BrickNo) (s : Scene) → Sound s → Seeks l p b s → b.0 < s.disk.count
 seeks_there l p b s sound h =
     let count = room_count l p s sound h.waits in
     let within = h.within in
@@ -84,7 +84,7 @@ pub misplaced_stands : (y : Misplaced) (s : Scene) → IsMisplaced y s → NameS
 misplaced_stands y s h = subst (λ (o : Option Place). NameStands s (entry_at y.location) (found_shape o)) h.file
     (stands_found (entry_at y.location) _ s (file_plain _ y.place h.file) (looked_is y.location y.held s h.held).stands)
 
-misplaced_name : (y : Misplaced) (s : Scene) → IsMisplaced y s → name_at s.disk y.place.brick.0 (entry_at y.location) ≡ Some y.place.file
+pub misplaced_name : (y : Misplaced) (s : Scene) → IsMisplaced y s → name_at s.disk y.place.brick.0 (entry_at y.location) ≡ Some y.place.file
 misplaced_name y s h =
     let stands = misplaced_stands y s h in
     name_stands_at s (entry_at y.location) (Plain y.place.brick.0 y.place.file) y.place.brick.0 stands.fits stands

@@ -52,7 +52,7 @@ replays_of : {B C : Type 0} (b : BrickGhosts B) (c : CallerGhosts C) → GoesOn 
 replays_of b c goes_on w count text rest events lines h = let fit = h.at.led.fit in record {
   done = done_by b c goes_on w w count text rest events lines h h.at.led;
   ready = subst (λ (ws : List ℕ). AreReady b.state ws (history_of lines).run (history_of lines).down w.bricks.items) (sym fit.same_weights) (subst (λ (run : ℕ). AreReady b.state w.weights run (history_of lines).down w.bricks.items) (sym fit.summary.run) h.at.ready);
-  healed = h.at.healed;
+  ends = h.at.ends;
 }
 
 -- where nothing is written behind the lines

@@ -1,16 +1,16 @@
 -- New clients, one after the other.
-use Rattle.std.proofs.Common.{◌≡◌, ℕ, ◌+◌, List, [], ◌∷◌, ◌++◌, false, length, suc, zero, subst, arith}
+use Rattle.std.proofs.Common.{◌≡◌, ℕ, ◌+◌, List, [], ◌∷◌, ◌++◌, true, false, length, suc, zero, subst, arith}
 use Rattle.std.specs.Prelude.{Some, slice_get}
 use Rattle.dht_section.specs.declared.caller.Caller.{Ghosts as CallerGhosts}
-use Rattle.dht_client.specs.Client.{client_number, client_is_busy, client_stage}
+use Rattle.dht_client.specs.Client.{client_number, client_is_busy, client_is_new, client_stage}
 use Rattle.dht_client.specs.declared.calling.Client.{Client}
 use Rattle.dht_world.specs.Clients.{client, IsNewAt, AreNewClients}
 use Rattle.dht_world.specs.declared.places.Place.{Place}
 use Rattle.dht_world.specs.declared.places.Place.TheVariants.{Living, Dead}
 
--- a client that has this number lives here, is idle and has not called
+-- a client that has this number lives here, is idle, has not called, and knows no layout
 abbrev pub IsIdlePlace : ℕ → Place Client → Type 0
-IsIdlePlace n (Living x k) = (client_number x ≡ client n) × (client_is_busy x ≡ false) × (k.0 ≡ 0)
+IsIdlePlace n (Living x k) = (client_number x ≡ client n) × (client_is_busy x ≡ false) × (k.0 ≡ 0) × (client_is_new x ≡ true)
 IsIdlePlace n Dead = ⊥
 
 -- the places, of which the first has number n, are of such clients
@@ -24,7 +24,7 @@ one_place_more n m (x ∷ xs) p h k new = (h.0, one_place_more (suc n) m xs p h.
 
 -- what a client is to the world
 abbrev ghosts : CallerGhosts Client
-ghosts = record { number = client_number; is_busy = client_is_busy; stage = client_stage }
+ghosts = record { number = client_number; is_busy = client_is_busy; is_new = client_is_new; stage = client_stage }
 
 idle_place : (n : ℕ) (p : Place Client) → IsIdlePlace n p → IsNewAt ghosts n (Some p)
 idle_place n (Living x k) h = h

@@ -15,7 +15,7 @@ use Rattle.dht_types.specs.declared.identifiers.CallNo.{CallNo}
 use Rattle.dht_invariant.proofs.StandsLaws.{stands_of, placed_of}
 use Rattle.dht_sched.specs.Transcript.{line_text, lines_text}
 use Rattle.dht_world.specs.Bricks.{disk_of, journals_of}
-use Rattle.dht_world.specs.Clients.{claims_of, ClientFits, Works}
+use Rattle.dht_world.specs.Clients.{claims_of, ClientFits, Rests, Works}
 use Rattle.dht_world.specs.Following.{ComesFrom, Block, IsSpent, step_limit}
 use Rattle.dht_world.specs.Places.{IsLed, Advances, summary_of}
 use Rattle.dht_world.specs.declared.places.Place.{Place}
@@ -132,14 +132,14 @@ misplaced events e input (Some more) one s not only eq = subst (λ (o : Option (
     may_scheduled (x ∷ xs) o h = h.0
 
 -- a call that nobody disturbed has requests left
-answers_by : {C : Type 0} (c : CallerGhosts C) → ((x : C) → c.is_busy x ≡ true → 0 < (c.stage x).variant) → (d : Disk) (s : History) (claims : ℕ → Claim) (i : ℕ) (x : C) (n : CallNo) (busy : Bool) → c.is_busy x ≡ busy → MatchBool busy (Works c d s claims i x n) (s.pending i ≡ None) → (r : PendingCall) → s.pending i ≡ Some r → IsUndisturbed s r → r.steps < cost (length s.weights) r.call
+answers_by : {C : Type 0} (c : CallerGhosts C) → ((x : C) → c.is_busy x ≡ true → 0 < (c.stage x).variant) → (d : Disk) (s : History) (claims : ℕ → Claim) (i : ℕ) (x : C) (n : CallNo) (busy : Bool) → c.is_busy x ≡ busy → MatchBool busy (Works c d s claims i x n) (Rests c s i x) → (r : PendingCall) → s.pending i ≡ Some r → IsUndisturbed s r → r.steps < cost (length s.weights) r.call
 answers_by c goes_on d s claims i x n true busy h r e alone =
     let z : Some h.mine ≡ Some r = sym h.runs ∙ e in
     let same : h.mine ≡ r = cc in
     let some = goes_on x busy in
     let l = h.in_time (subst (IsUndisturbed s) (sym same) alone) in
     subst (λ (o : PendingCall). o.steps < cost (length s.weights) o.call) same (omega arith)
-answers_by c goes_on d s claims i x n false idle h r e alone = absurd (let z : Some r ≡ None = sym e ∙ h in cc)
+answers_by c goes_on d s claims i x n false idle h r e alone = absurd (let z : Some r ≡ None = sym e ∙ h.none in cc)
 
 answers_at : {C : Type 0} (c : CallerGhosts C) → ((x : C) → c.is_busy x ≡ true → 0 < (c.stage x).variant) → (d : Disk) (s : History) (claims : ℕ → Claim) (i : ℕ) (place : Option (Place C)) → ClientFits c d s claims i place → (r : PendingCall) → s.pending i ≡ Some r → IsUndisturbed s r → r.steps < cost (length s.weights) r.call
 answers_at c goes_on d s claims i None h r e alone = absurd (let z : Some r ≡ None = sym e ∙ h in cc)

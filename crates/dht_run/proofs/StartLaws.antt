@@ -6,7 +6,7 @@ use Rattle.dht_brick.specs.Bricks.{BrickState}
 use Rattle.dht_sched.specs.Transcript.{lines_text, malformed_text}
 use Rattle.dht_world.specs.Bricks.{disk_of, journals_of, AreReady}
 use Rattle.dht_world.specs.Places.{IsAt}
-use Rattle.dht_world.proofs.HealedLaws.{no_heal_none}
+use Rattle.dht_world.proofs.EndLaws.{no_end_none}
 use Rattle.dht_brick.specs.declared.brick.Brick.{Ghosts as BrickGhosts}
 use Rattle.dht_section.specs.declared.caller.Caller.{Ghosts as CallerGhosts}
 use Rattle.dht_world.specs.declared.events.World.{World}
@@ -56,7 +56,7 @@ nothing_replayed {B = B} state bricks text rest none same = record {
     prefix = sym same ∙ sym (told_nothing rest);
   };
   ready = subst (λ (bs : List B). AreReady state (history_of []).weights (history_of []).run (history_of []).down bs) (sym none) (λ b. tt);
-  healed = no_heal_none (disk_of state bricks);
+  ends = no_end_none (disk_of state bricks);
 }
 
 -- memory ran out before the first line

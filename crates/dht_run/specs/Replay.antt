@@ -20,7 +20,7 @@ use Rattle.dht_sched.specs.Schedule.{schedule_text, IsScheduled}
 use Rattle.dht_sched.specs.Transcript.{lines_text, dump_lines_text, malformed_text, limit_text}
 use Rattle.dht_world.specs.Bricks.{disk_of, journals_of, volume_of, Logged, AreNoted, AreReady, AreReadyInEither}
 use Rattle.dht_world.specs.Following.{ComesFrom, InTimeFrom, IsSpent, step_limit}
-use Rattle.dht_world.specs.World.{HealsWhole, HoldersCall}
+use Rattle.dht_world.specs.World.{EndsWell, HoldersCall}
 use Rattle.dht_run.specs.LineReader.{HasNoNewline}
 use Rattle.dht_run.specs.Outside.{before_told, after_told, IsAtEnd}
 use Rattle.dht_run.specs.Written.{TakesPrefix}
@@ -124,14 +124,14 @@ pub record CarriedOut {B : Type 0} (state : B → BrickState) (bricks : List B)
   pub transcript : IsTranscript events lines (disk_of state bricks) (journals_of state bricks)
   pub prefix : text ≡ before_told (schedule_of events) rest
 
--- and each brick knows the lines' volume, and is up unless the lines say that it is down; where the last
--- line is the answer ok of a heal that was the only call in its span, its directory is whole on the bricks
+-- and each brick knows the lines' volume, and is up unless the lines say that it is down; and what the
+-- last line tells of a call that was alone holds of the bricks
 pub record Replays {B : Type 0} (state : B → BrickState) (bricks : List B)
     (text rest : Option (List ℕ)) (events : List Event) (lines : List Line) : Type 0 where
   pub done : CarriedOut state bricks text rest events lines
   pub ready : AreReady state (history_of lines).weights (history_of lines).run
       (history_of lines).down bricks
-  pub healed : HealsWhole (disk_of state bricks) lines
+  pub ends : EndsWell (disk_of state bricks) lines
 
 -- the text was carried out whole, and the transcript and the dump were written
 pub record IsDone {B : Type 0} (state : B → BrickState) (bricks : List B) (text left before taken : Option (List ℕ)) : Type 0 where

@@ -139,6 +139,7 @@ nothing_done s t a r z m same none =
         call = m.mine.call;
         since = m.mine.since;
         alone = m.mine.alone;
+        is_first = m.mine.is_first;
         was_down = m.mine.was_down ∙ or_nothing s.mine.was_down _ (not_down r z);
         has_failed = m.mine.has_failed ∙ or_nothing s.mine.has_failed _ (not_failed r z);
         deeds = m.mine.deeds_are ∙ ap (λ (o : Option TreeStep). deeds_by s t.history.size o) none;

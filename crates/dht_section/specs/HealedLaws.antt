@@ -9,7 +9,7 @@ use Rattle.dht_xattr.specs.declared.range.Range.{Range}
 use Rattle.dht_section.specs.Disk.{Disk, dir_at, layout_of, range_at, range_of, ranges_below}
 use Rattle.dht_section.specs.Healed.{IsAbove, IsHealed, IsWhole}
 
-ranges_kept : (d e : Disk) (g : Gfid) → ((b : ℕ) → dir_at e b g ≡ dir_at d b g) → (n : ℕ) → ranges_below e g n ≡ ranges_below d g n
+pub ranges_kept : (d e : Disk) (g : Gfid) → ((b : ℕ) → dir_at e b g ≡ dir_at d b g) → (n : ℕ) → ranges_below e g n ≡ ranges_below d g n
 unfolding ranges_below
 ranges_kept d e g same zero = refl
 ranges_kept d e g same (suc b) =

@@ -22,6 +22,7 @@ pub mod Stages
 pub mod AsCall
 pub mod AsCallLaws
 pub mod Begins
+pub mod FirstLookup
 pub mod Replies
 pub mod MayAnswerLaws
 pub mod Want

@@ -1,5 +1,5 @@
 -- What one request of mine makes of the scene.
-use Rattle.std.specs.Prelude.{ℕ, ◌≤◌, ◌≡◌, ◌||◌, nat_eq, if◌then◌else◌, Bool, true, false, Option, Some, None, length}
+use Rattle.std.specs.Prelude.{ℕ, ◌+◌, ◌≤◌, ◌≡◌, ◌||◌, nat_eq, if◌then◌else◌, Bool, true, false, Option, Some, None, length}
 use Rattle.dht_types.specs.Gfid.{home}
 use Rattle.dht_types.specs.Tree.{Tree, applied}
 use Rattle.dht_types.specs.Volume.{replay_names}
@@ -72,6 +72,8 @@ pub record CallAfter (x : PendingCall) (seen : Reply) (deeds : Option Deeds) (y 
   pub call : y.call ≡ x.call
   pub since : y.since ≡ x.since
   pub alone : y.alone ≡ x.alone
+  pub is_first : y.is_first ≡ x.is_first
+  pub steps : y.steps ≤ x.steps + 1
   pub was_down : y.was_down ≡ (x.was_down || is_down (reply_kind seen))
   pub has_failed : y.has_failed ≡ (x.has_failed || is_failed (reply_kind seen))
   pub deeds_are : y.deeds ≡ deeds

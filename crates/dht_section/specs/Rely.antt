@@ -43,6 +43,7 @@ pub record SameCall (r q : PendingCall) : Type 0 where
   pub call : q.call ≡ r.call
   pub since : q.since ≡ r.since
   pub alone : q.alone ≡ r.alone
+  pub is_first : q.is_first ≡ r.is_first
   pub was_down : q.was_down ≡ r.was_down
   pub has_failed : q.has_failed ≡ r.has_failed
   pub deeds : q.deeds ≡ r.deeds

@@ -8,6 +8,7 @@ use Rattle.dht_brick.specs.declared.replies.Reply.{Reply}
 use Rattle.dht_brick.specs.declared.replies.Reply.TheVariants.{Wait}
 use Rattle.dht_section.specs.Claims.{Claim, MayClaim, no_claim}
 use Rattle.dht_section.specs.Disk.{holders}
+use Rattle.dht_section.specs.FirstLookup.{FindsSoon}
 use Rattle.dht_section.specs.Healed.{IsHealed}
 use Rattle.dht_section.specs.Moves.{Guarantee}
 use Rattle.dht_section.specs.Permits.{Permitted}
@@ -42,6 +43,10 @@ MaySend x = (s : Scene) → Sound s → IsAt x s → Permitted s x.asks
 -- what others may do leaves true what is known at this stage
 abbrev pub IsStable : Stage → Type 0
 IsStable x = (s t : Scene) → x.knows s → Rely s t → x.knows t
+
+-- and so it is for a client: its call takes no step meanwhile
+abbrev pub IsCallStable : Stage → Type 0
+IsCallStable x = (s t : Scene) → x.knows s → Rely s t → t.mine.steps ≡ s.mine.steps → x.knows t
 
 -- the request of this stage was answered so between these scenes, and its last line is this one
 pub record Served (x : Stage) (r : Reply) (at : ℕ) (s t : Scene) : Type 0 where
@@ -105,4 +110,4 @@ abbrev pub CallMoves : {C : Type 0} → (C → Bool) → (C → Stage) → (old 
 CallMoves is_busy stage old new r at answer =
     (s t : Scene) → Served (stage old) r at s t
     → MatchOption answer ((is_busy new ≡ true) × GoesOn (stage old) (stage new) r t)
-    (λ f. (is_busy new ≡ false) × EndsIn (stage old) (call_answered f) t)
+    (λ f. (is_busy new ≡ false) × EndsIn (stage old) (call_answered f) t × FindsSoon f t)

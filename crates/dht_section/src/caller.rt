@@ -6,7 +6,7 @@ ghost use Rattle.dht_types.specs.Cost.{cost};
 ghost use Rattle.dht_types.specs.declared.identifiers.ClientNo.{ClientNo};
 ghost use Rattle.dht_section.specs.Begins.{Begins, IsRefusal};
 ghost use Rattle.dht_section.specs.Scene.{Scene};
-ghost use Rattle.dht_section.specs.Stages.{Stage, CallMoves, MaySend, IsStable};
+ghost use Rattle.dht_section.specs.Stages.{Stage, CallMoves, MaySend, IsCallStable};
 
 use super::machine::{Ask, Finish};
 use dht_brick::replies::Reply;
@@ -24,13 +24,17 @@ pub trait Caller: Sized {
     /// Whether a call of it is running.
     ghost is_busy: { Self → Bool };
 
+    /// Whether it knows no layout yet.
+    ghost is_new: { Self → Bool };
+
     /// Where its call is between its requests.
     ghost stage: { Self → Stage };
 
     /// A client of this number that has called nothing yet.
     fn new(client: ClientNo) -> Self
         ensures number { number result ≡ client }
-        ensures idle { is_busy result ≡ false };
+        ensures idle { is_busy result ≡ false }
+        ensures unread { is_new result ≡ true };
 
     /// Whether no call of it is running.
     fn is_idle(&self) -> bool
@@ -55,7 +59,7 @@ pub trait Caller: Sized {
         ensures busy { is_busy self.new ≡ is_ok result }
         ensures copy { OnOk result ((stage self.new).claims.copy ≡ None) }
         ensures knows { OnOk result ((s : Scene)
-            → Begins (number self.old) weights.now run call what.now s
+            → Begins (number self.old) (is_new self.old) weights.now run call what.now s
             → (stage self.new).knows s) }
         ensures variant { OnOk result
             ((stage self.new).variant ≤ cost (length weights.now) what.now) };
@@ -75,8 +79,8 @@ pub trait Caller: Sized {
     /// Its call may send its request in every sound scene of which its knowledge holds.
     ghost permitted: { (c : Self) → is_busy c ≡ true → MaySend (stage c) };
 
-    /// What others may do leaves its knowledge true.
-    ghost stable: { (c : Self) → IsStable (stage c) };
+    /// What others may do leaves its knowledge true, while its call takes no step.
+    ghost stable: { (c : Self) → IsCallStable (stage c) };
 
     /// A running call sends another request.
     ghost goes_on: { (c : Self) → is_busy c ≡ true → 0 < (stage c).variant };

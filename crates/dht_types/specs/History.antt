@@ -38,6 +38,7 @@ pub record PendingCall : Type 0 where
   pub call : Call Gfid
   pub since : ℕ  -- its call line
   pub alone : Bool  -- no other call was running when it began
+  pub is_first : Bool  -- its client had not called since the volume was mounted
   pub steps : ℕ  -- how many step lines it has
   pub was_down : Bool  -- one of them says that its brick was down
   pub has_failed : Bool  -- one of them says that its brick failed
@@ -67,6 +68,7 @@ pub record History : Type 0 where
   pub past : ℕ → Tree  -- the tree after that many lines
   pub pending : ℕ → Option PendingCall  -- each client's call
   pub callers : List ℕ  -- the clients that have one
+  pub called : ℕ → Bool  -- which clients have called since the volume was mounted
   pub answered : ℕ → Option Gfid  -- the file or directory that each call answered, by its number
   pub dead : ℕ → Bool  -- which clients have died
   pub down : ℕ → Bool  -- which bricks are down
@@ -155,9 +157,10 @@ abbrev pub is_empty : List ℕ → Bool
 is_empty [] = true
 is_empty (x ∷ xs) = false
 
--- a call that was accepted at this line, while these clients had one
-abbrev pub accepted : List ℕ → ℕ → CallNo → Call Gfid → PendingCall
-accepted callers line k call = record { number = k; call = call; since = line; alone = is_empty callers; steps = 0; was_down = false; has_failed = false; deeds = None }
+-- a call that was accepted at this line, while these clients had one, and of a client that had called
+-- since the volume was mounted, or had not
+abbrev pub accepted : Bool → List ℕ → ℕ → CallNo → Call Gfid → PendingCall
+accepted called callers line k call = record { number = k; call = call; since = line; alone = is_empty callers; is_first = not called; steps = 0; was_down = false; has_failed = false; deeds = None }
 
 -- a pending call with one more step line of this reply, or with the tree line of this step at this line
 abbrev pub stepped : ReplyKind → Option PendingCall → Option PendingCall
@@ -202,12 +205,13 @@ gfid_in (Fault e) = None
 -- what each kind of line changes
 abbrev pub tells : History → Line → History
 tells s (Volume w) = record s { weights = w }
--- the next run begins, in which every client is alive
-tells s (Remounted w) = record s { weights = w; run = s.run + 1; dead = λ c. false }
+-- the next run begins, in which every client is alive and has not called
+tells s (Remounted w) = record s { weights = w; run = s.run + 1; called = λ c. false; dead = λ c. false }
 tells s (Called k c call) = record s {
   calls = s.calls + 1;
-  pending = put nat_eq s.pending c.0 (Some (accepted s.callers (s.size + 1) k call));
+  pending = put nat_eq s.pending c.0 (Some (accepted (s.called c.0) s.callers (s.size + 1) k call));
   callers = c.0 ∷ s.callers;
+  called = put nat_eq s.called c.0 true;
 }
 tells s (Stepped k c b q r) = record s {
   pending = put nat_eq s.pending c.0 (stepped r (s.pending c.0));
@@ -256,6 +260,7 @@ start = record {
   past = λ j. first_tree;
   pending = λ c. None;
   callers = [];
+  called = λ c. false;
   answered = λ k. None;
   dead = λ c. false;
   down = λ b. false;

@@ -30,17 +30,18 @@ use Rattle.dht_section.specs.declared.machine.Ask.{Ask}
 use Rattle.dht_section.specs.declared.machine.Finish.{Finish}
 use Rattle.dht_section.specs.Claims.{Claim, no_claim}
 use Rattle.dht_section.specs.Disk.{Disk, ChangesOneBrick}
+use Rattle.dht_section.specs.FirstLookup.{FindsSoon}
 use Rattle.dht_section.specs.Moves.{Guarantee, outcome_of}
 use Rattle.dht_section.specs.Permits.{Permitted}
 use Rattle.dht_section.specs.Scene.{Scene, Sound}
-use Rattle.dht_section.specs.Stages.{Served, MaySend, IsStable, GoesOn, EndsIn, LeavesWhole, call_answered, is_wait}
+use Rattle.dht_section.specs.Stages.{Served, MaySend, IsCallStable, GoesOn, EndsIn, LeavesWhole, call_answered, is_wait}
 use Rattle.dht_section.specs.declared.caller.Caller.{Ghosts as CallerGhosts}
 use Rattle.dht_invariant.specs.Laws.{TransitionLaws}
 use Rattle.dht_invariant.specs.Transition.{scene, Transition}
-use Rattle.dht_world.specs.Clients.{client, claim_at, claims_of, Works, ClientFits}
+use Rattle.dht_world.specs.Clients.{client, claim_at, claims_of, Rests, Works, ClientFits}
 use Rattle.dht_world.specs.Following.{IsStep, IsWait}
 use Rattle.dht_world.specs.Lines.{step_line, request_lines}
-use Rattle.dht_world.specs.World.{Summary, At, HealsWhole}
+use Rattle.dht_world.specs.World.{Summary, At, EndsWell}
 use Rattle.dht_world.specs.declared.places.Place.{Place}
 use Rattle.dht_world.specs.declared.places.Place.TheVariants.{Living}
 use Rattle.dht_world.proofs.AnsweredLaws.{answered_set}
@@ -50,7 +51,7 @@ use Rattle.dht_world.proofs.BrickLaws.{get_set_other}
 use Rattle.dht_world.proofs.ClientLaws.{Happens, holders_call, claims_set, busy_is}
 use Rattle.dht_world.proofs.CountLaws.{Passes, passes_on, undisturbed_before}
 use Rattle.dht_invariant.proofs.CountedLaws.{counted_ended, none_if}
-use Rattle.dht_world.proofs.HealedLaws.{heal_answered}
+use Rattle.dht_world.proofs.EndLaws.{end_answered}
 use Rattle.dht_world.proofs.LineLaws.{in_time_append}
 use Rattle.dht_world.proofs.NotedLaws.{Extends, extends_served, noted_append}
 use Rattle.dht_world.proofs.RefusalLaws.{heeds_none}
@@ -67,7 +68,7 @@ pub record Answers (d : Disk) (js : ℕ → List JournalEntry) (down : ℕ → B
   pub changes : ChangesOneBrick d a.brick.0 new e
   pub noted : ks ≡ put nat_eq js a.brick.0 (unless_down r (js a.brick.0) (js a.brick.0 ++ entry_of (client c) k a.request r ∷ []))
 
-module _ {C : Type 0} (g : CallerGhosts C) (laws : TransitionLaws) (stable : (x : C) → IsStable (g.stage x)) (permitted : (x : C) → g.is_busy x ≡ true → MaySend (g.stage x)) (goes_on : (x : C) → g.is_busy x ≡ true → 0 < (g.stage x).variant) where
+module _ {C : Type 0} (g : CallerGhosts C) (laws : TransitionLaws) (stable : (x : C) → IsCallStable (g.stage x)) (permitted : (x : C) → g.is_busy x ≡ true → MaySend (g.stage x)) (goes_on : (x : C) → g.is_busy x ≡ true → 0 < (g.stage x).variant) where
   -- the client of a place has a pending call
   pub works_at : (d : Disk) (js : ℕ → List JournalEntry) (places : List (Place C)) (ws : List ℕ) (n : Summary) (past : List Line) (c : ℕ) (x : C) (k : CallNo) → At g d js places ws n past → slice_get places c ≡ Some (Living x k) → g.is_busy x ≡ true → Works g d (history_of past) (claims_of g places) c x k
   works_at d js places ws n past c x k h here busy =
@@ -265,13 +266,14 @@ module _ {C : Type 0} (g : CallerGhosts C) (laws : TransitionLaws) (stable : (x 
           own = own_set g laws stable e after_lines places c new within (subst (λ (z : Place C). ClientFits g e after_lines (claims_of g (slice_set places c new)) c (Some z)) (sym is) (
             ap (λ (f : ℕ → Bool). f c) w.same_dead ∙ fits.0,
             same ∙ fits.1,
-            subst (λ (b : Bool). MatchBool b (Works g e after_lines (claims_of g (slice_set places c new)) c y k) (after_lines.pending c ≡ None)) (sym busy_then) (record {
+            subst (λ (b : Bool). MatchBool b (Works g e after_lines (claims_of g (slice_set places c new)) c y k) (Rests g after_lines c y)) (sym busy_then) (record {
               mine = then_mine;
               runs = w.runs;
               number = w.moved.mine.number ∙ works.number;
               named = ap (λ (q : Call Gfid). refusal_at_once q) w.same_call ∙ works.named;
+              called = ap (λ (f : ℕ → Bool). f c) w.same_called ∙ works.called;
               begun = w.begun;
-              knows = stable y next_scene (scene e after_lines (claims_of g (slice_set places c new)) (client c) then_mine) goes.knows (rely_claimed e after_lines claims (claims_of g (slice_set places c new)) c then_mine);
+              knows = stable y next_scene (scene e after_lines (claims_of g (slice_set places c new)) (client c) then_mine) goes.knows (rely_claimed e after_lines claims (claims_of g (slice_set places c new)) c then_mine) refl;
               in_time = λ u. (let before = undisturbed_before c before_lines after_lines mine then_mine w.passes (h.fit.kept.counts.numbered c mine works.runs) (ap (λ (q : CallNo). q.0) w.moved.mine.number) w.moved.mine.alone u in
                   let bound = works.in_time before in
                   let nearer = (goes.nearer u).0 (calm_by r refl before) in
@@ -332,7 +334,7 @@ module _ {C : Type 0} (g : CallerGhosts C) (laws : TransitionLaws) (stable : (x 
           own = λ o q fresh. absurd (let z : None ≡ Some o = sym (put_same nat_eq exact_nat after_lines.pending c None) ∙ q in cc);
         }) in
         let both = laws.compose c d e e before_lines after_lines u claims (put nat_eq claims c no_claim) (put nat_eq claims c no_claim) h.fit.kept two three in
-        let last : Passes c after_lines u = record { weights = refl; calls = omega arith; clean = and_first after_lines.clean _; dead = λ i ne. refl; down = λ b l. refl } in
+        let last : Passes c after_lines u = record { weights = refl; calls = omega arith; clean = and_first after_lines.clean _; dead = λ i ne. refl; called = λ i ne. refl; down = λ b l. refl } in
         let happens : Happens g c d e ks before_lines u places (slice_set places c new) (summary_ended f) = record {
           transition = subst (λ (q : ℕ → Claim). Transition c d before_lines claims e u q) set both;
           passes = passes_on c before_lines after_lines u w.passes last;
@@ -352,7 +354,10 @@ module _ {C : Type 0} (g : CallerGhosts C) (laws : TransitionLaws) (stable : (x 
           own = own_set g laws stable e u places c new within (subst (λ (z : Place C). ClientFits g e u (claims_of g (slice_set places c new)) c (Some z)) (sym is) (
             ap (λ (q : ℕ → Bool). q c) w.same_dead ∙ fits.0,
             same ∙ fits.1,
-            subst (λ (b : Bool). MatchBool b (Works g e u (claims_of g (slice_set places c new)) c y k) (u.pending c ≡ None)) (sym idle) (put_same nat_eq exact_nat after_lines.pending c None),
+            subst (λ (b : Bool). MatchBool b (Works g e u (claims_of g (slice_set places c new)) c y k) (Rests g u c y)) (sym idle) (record {
+              none = put_same nat_eq exact_nat after_lines.pending c None;
+              fresh = λ q. absurd (let z : true ≡ false = sym (ap (λ (f : ℕ → Bool). f c) w.same_called ∙ works.called) ∙ q in cc);
+            }),
           ));
         } in
         at_by g laws stable c d e js ks places (slice_set places c new) ws n (summary_ended f) past (xs ++ end ∷ []) h
@@ -362,7 +367,7 @@ module _ {C : Type 0} (g : CallerGhosts C) (laws : TransitionLaws) (stable : (x 
         grown (noted_append ks before_lines xs (end ∷ []) w.noted (tt, tt))
         (subst (λ (q : History). Happens g c d e ks before_lines q places (slice_set places c new) (summary_ended f)) (sym all) happens)
 
-    -- and where it was a heal that was alone, its directory is whole then
-    pub healed_then : (f : Finish) → LeavesWhole f next_scene → HealsWhole e (past ++ (request_lines k (client c) a r ++ Answered k (client c) f.at f.answer ∷ []))
+    -- and what the answer tells of a call that was alone holds then
+    pub ends_then : (f : Finish) → LeavesWhole f next_scene → FindsSoon f next_scene → EndsWell e (past ++ (request_lines k (client c) a r ++ Answered k (client c) f.at f.answer ∷ []))
     unfolding then_mine next_scene
-    healed_then f whole = heal_answered e past (request_lines k (client c) a r) k (client c) f then_mine gone.runs whole
+    ends_then f whole soon = end_answered e past (request_lines k (client c) a r) k (client c) f then_mine gone.runs whole soon

@@ -16,7 +16,7 @@ use Rattle.dht_section.specs.Claims.{Claim, Listed, MayClaim, no_claim, place_in
 use Rattle.dht_section.specs.Disk.{Disk, holders}
 use Rattle.dht_section.specs.Rely.{Rely}
 use Rattle.dht_section.specs.Shapes.{NameShape, Folder, Committed, Grows}
-use Rattle.dht_section.specs.Stages.{IsStable}
+use Rattle.dht_section.specs.Stages.{IsCallStable}
 use Rattle.dht_section.specs.declared.caller.Caller.{Ghosts as CallerGhosts}
 use Rattle.dht_invariant.specs.Laws.{TransitionLaws}
 use Rattle.dht_invariant.specs.Transition.{scene, Transition, FreesClient}
@@ -42,7 +42,7 @@ grows_refl h = refl
 pub rely_claimed : (d : Disk) (s : History) (p q : ℕ → Claim) (c : ℕ) (r : PendingCall) → Rely (scene d s p (client c) r) (scene d s q (client c) r)
 rely_claimed d s p q c r = record {
   who = refl;
-  mine = record { number = refl; call = refl; since = refl; alone = refl; was_down = refl; has_failed = refl; deeds = refl };
+  mine = record { number = refl; call = refl; since = refl; alone = refl; is_first = refl; was_down = refl; has_failed = refl; deeds = refl };
   count = refl;
   run = refl;
   weights = refl;
@@ -72,6 +72,7 @@ pub record IsStill (s : History) (x : Line) : Type 0 where
   pub calls : (tells s x).calls ≡ s.calls
   pub pending : (tells s x).pending ≡ s.pending
   pub callers : (tells s x).callers ≡ s.callers
+  pub called : (tells s x).called ≡ s.called
   pub dead : (tells s x).dead ≡ s.dead
   pub down : (b : ℕ) → length s.weights ≤ b → (tells s x).down b ≡ s.down b
   pub clean : (tells s x).clean ≡ true → s.clean ≡ true
@@ -82,19 +83,19 @@ pub record IsStill (s : History) (x : Line) : Type 0 where
   pub answered : (tells s x).answered ≡ s.answered
 
 pub still_refused : (s : History) (n : ℕ) (cause : Cause) → IsStill s (Refused n cause)
-still_refused s n cause = record { tree = refl; weights = refl; run = refl; calls = refl; pending = refl; callers = refl; dead = refl; down = λ b l. refl; clean = λ q. q; requests = refl; acts = refl; changes = refl; dir_changes = refl; answered = refl }
+still_refused s n cause = record { tree = refl; weights = refl; run = refl; calls = refl; pending = refl; callers = refl; called = refl; dead = refl; down = λ b l. refl; clean = λ q. q; requests = refl; acts = refl; changes = refl; dir_changes = refl; answered = refl }
 
 pub still_down : (s : History) (b : BrickNo) → b.0 < length s.weights → IsStill s (WentDown b)
-still_down s b there = record { tree = refl; weights = refl; run = refl; calls = refl; pending = refl; callers = refl; dead = refl; down = λ i l. put_other nat_eq exact_nat s.down b.0 true i (λ e. omega arith); clean = λ q. absurd (let z : false ≡ true = q in cc); requests = refl; acts = refl; changes = refl; dir_changes = refl; answered = refl }
+still_down s b there = record { tree = refl; weights = refl; run = refl; calls = refl; pending = refl; callers = refl; called = refl; dead = refl; down = λ i l. put_other nat_eq exact_nat s.down b.0 true i (λ e. omega arith); clean = λ q. absurd (let z : false ≡ true = q in cc); requests = refl; acts = refl; changes = refl; dir_changes = refl; answered = refl }
 
 pub still_up : (s : History) (b : BrickNo) → b.0 < length s.weights → IsStill s (CameUp b)
-still_up s b there = record { tree = refl; weights = refl; run = refl; calls = refl; pending = refl; callers = refl; dead = refl; down = λ i l. put_other nat_eq exact_nat s.down b.0 false i (λ e. omega arith); clean = λ q. q; requests = refl; acts = refl; changes = refl; dir_changes = refl; answered = refl }
+still_up s b there = record { tree = refl; weights = refl; run = refl; calls = refl; pending = refl; callers = refl; called = refl; dead = refl; down = λ i l. put_other nat_eq exact_nat s.down b.0 false i (λ e. omega arith); clean = λ q. q; requests = refl; acts = refl; changes = refl; dir_changes = refl; answered = refl }
 
 -- which bricks are down after a line more
 pub down_after : (past : List Line) (x : Line) (down : ℕ → Bool) → (tells (history_of past) x).down ≡ down → (history_of (past ++ x ∷ [])).down ≡ down
 down_after past x down e = ap (λ (s : History). s.down) (lines_more start past x) ∙ e
 
-module _ {C : Type 0} (g : CallerGhosts C) (laws : TransitionLaws) (stable : (x : C) → IsStable (g.stage x)) where
+module _ {C : Type 0} (g : CallerGhosts C) (laws : TransitionLaws) (stable : (x : C) → IsCallStable (g.stage x)) where
   -- lines that may come, after which the world fits
   pub at_by : (c : ℕ) (d e : Disk) (js ks : ℕ → List JournalEntry) (places after : List (Place C)) (ws : List ℕ) (m n : Summary) (past lines : List Line) → At g d js places ws m past → LegalFrom (history_of past) lines → (with_lines (history_of past) lines).owed ≡ None → InTimeFrom (history_of past) lines → Extends js ks → AreNoted ks (history_of past) lines → Happens g c d e ks (history_of past) (with_lines (history_of past) lines) places after n → At g e ks after ws n (past ++ lines)
   at_by c d e js ks places after ws m n past lines h legal owed in_time grown noted happens = record {
@@ -130,7 +131,7 @@ module _ {C : Type 0} (g : CallerGhosts C) (laws : TransitionLaws) (stable : (x 
           pending = λ w ne. ap (λ (f : ℕ → Option PendingCall). f w) h.pending;
           own = λ r e none. inl (record { before = r; was_it = sym (ap (λ (f : ℕ → Option PendingCall). f 64) h.pending) ∙ e; number = refl; fresh = none });
         });
-        passes = record { weights = h.weights; calls = omega arith; clean = h.clean; dead = λ w ne. ap (λ (f : ℕ → Bool). f w) h.dead; down = h.down };
+        passes = record { weights = h.weights; calls = omega arith; clean = h.clean; dead = λ w ne. ap (λ (f : ℕ → Bool). f w) h.dead; called = λ w ne. ap (λ (f : ℕ → Bool). f w) h.called; down = h.down };
         logged = record { steps = λ b. fit.logged.steps b ∙ sym (ap (λ f. f b) h.acts); slots = λ b. fit.logged.slots b ∙ sym (ap (λ f. f b) h.changes); dirs = λ b. subst (λ (f : ℕ → List Entry). IsSublist (f b) (copied_slots (js b))) (sym h.dir_changes) (fit.logged.dirs b) };
         summary = record { run = h.run ∙ summary.run; calls = h.calls ∙ summary.calls; lines = omega arith; requests = h.requests ∙ summary.requests; answers = h.answered ∙ summary.answers; places = summary.places; fewer = omega arith; less = omega arith };
         many = refl;
@@ -171,7 +172,7 @@ module _ {C : Type 0} (g : CallerGhosts C) (laws : TransitionLaws) (stable : (x 
       let within : c < length places = omega arith in
       at_by c d e js js places (slice_set places c Dead) ws n (record n { lines = n.lines + 1 }) past (Died (client c) ∷ []) h ((h.legal.whole, living), tt) refl (tt, tt) (λ b i e q. q) (tt, tt) (record {
         transition = subst (λ (q : ℕ → Claim). Transition c d s (claims_of g places) e t q) (claims_set g places c Dead within) (laws.death (client c) d e s (claims_of g places) fit.kept fit.early frees);
-        passes = record { weights = refl; calls = omega arith; clean = λ q. absurd (let z : false ≡ true = q in cc); dead = λ w ne. put_other nat_eq exact_nat s.dead c true w ne; down = λ b l. refl };
+        passes = record { weights = refl; calls = omega arith; clean = λ q. absurd (let z : false ≡ true = q in cc); dead = λ w ne. put_other nat_eq exact_nat s.dead c true w ne; called = λ w ne. refl; down = λ b l. refl };
         logged = record { steps = fit.logged.steps; slots = fit.logged.slots; dirs = fit.logged.dirs };
         summary = record { run = summary.run; calls = summary.calls; lines = omega arith; requests = summary.requests; answers = summary.answers; places = summary.places; fewer = omega arith; less = omega arith };
         many = length-set places c Dead;

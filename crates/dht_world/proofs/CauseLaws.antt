@@ -18,7 +18,7 @@ use Rattle.dht_brick.specs.declared.journal.JournalEntry.{JournalEntry}
 use Rattle.dht_invariant.proofs.Basics.{not_true}
 use Rattle.dht_world.proofs.BrickLaws.{there_is}
 use Rattle.dht_invariant.proofs.CountedLaws.{not_none}
-use Rattle.dht_world.specs.Clients.{Works, ClientFits, claims_of, place_cause, IsBusy, IsIdle}
+use Rattle.dht_world.specs.Clients.{Rests, Works, ClientFits, claims_of, place_cause, IsBusy, IsIdle}
 use Rattle.dht_world.specs.Answers.{answered_in}
 use Rattle.dht_world.specs.Following.{client_cause, answer_cause, call_cause, step_cause, brick_cause, cause_of}
 use Rattle.dht_world.specs.World.{Summary, Fit}
@@ -31,10 +31,10 @@ by_pending idle busy None = idle
 by_pending idle busy (Some r) = busy
 
 module _ {C : Type 0} (g : CallerGhosts C) where
-  cause_living : (d : Disk) (s : History) (p : ℕ → Claim) (c : ℕ) (x : C) (n : Rattle.dht_types.specs.declared.identifiers.CallNo.CallNo) (b : Bool) (idle busy : Option Cause) → MatchBool b (Works g d s p c x n) (s.pending c ≡ None) → (if b then busy else idle) ≡ by_pending idle busy (s.pending c)
+  cause_living : (d : Disk) (s : History) (p : ℕ → Claim) (c : ℕ) (x : C) (n : Rattle.dht_types.specs.declared.identifiers.CallNo.CallNo) (b : Bool) (idle busy : Option Cause) → MatchBool b (Works g d s p c x n) (Rests g s c x) → (if b then busy else idle) ≡ by_pending idle busy (s.pending c)
   unfolding by_pending
   cause_living d s p c x n true idle busy h = sym (ap (by_pending idle busy) h.runs)
-  cause_living d s p c x n false idle busy h = sym (ap (by_pending idle busy) h)
+  cause_living d s p c x n false idle busy h = sym (ap (by_pending idle busy) h.none)
 
   cause_by : (d : Disk) (s : History) (p : ℕ → Claim) (c : ℕ) (o : Option (Place C)) (there : Bool) (idle busy : Option Cause) → ClientFits g d s p c o → (o ≡ None → there ≡ false) → ((q : Place C) → o ≡ Some q → there ≡ true) → place_cause g o idle busy ≡ (if there then (if s.dead c then Some cause.Dead else by_pending idle busy (s.pending c)) else Some cause.Unknown)
   unfolding by_pending
@@ -118,7 +118,7 @@ module _ {C : Type 0} (g : CallerGhosts C) where
   idle_place d s p c Dead h living none = absurd (let z : true ≡ false = sym h.0 ∙ living in cc)
   idle_place d s p c (Living x n) h living none = record { client = x; number = n; is = refl; idle = by (g.is_busy x) h.2 }
     where
-      by : (b : Bool) → MatchBool b (Works g d s p c x n) (s.pending c ≡ None) → b ≡ false
+      by : (b : Bool) → MatchBool b (Works g d s p c x n) (Rests g s c x) → b ≡ false
       by true w = absurd (not_none (s.pending c) w.mine none w.runs)
       by false w = refl
 
@@ -126,9 +126,9 @@ module _ {C : Type 0} (g : CallerGhosts C) where
   busy_place d s p c Dead h living some = absurd (let z : true ≡ false = sym h.0 ∙ living in cc)
   busy_place d s p c (Living x n) h living some = record { client = x; number = n; is = refl; busy = by (g.is_busy x) h.2 }
     where
-      by : (b : Bool) → MatchBool b (Works g d s p c x n) (s.pending c ≡ None) → b ≡ true
+      by : (b : Bool) → MatchBool b (Works g d s p c x n) (Rests g s c x) → b ≡ true
       by true w = refl
-      by false w = absurd (let z : false ≡ true = sym (ap is_some w) ∙ some in cc)
+      by false w = absurd (let z : false ≡ true = sym (ap is_some w.none) ∙ some in cc)
 
   module _ (d : Disk) (js : ℕ → List JournalEntry) (places : List (Place C)) (ws : List ℕ) (n : Summary) (s : History) (h : Fit g d js places ws n s) where
     -- a call that is accepted is of a client that is idle, and a step of one that is busy

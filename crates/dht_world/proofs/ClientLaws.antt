@@ -10,13 +10,13 @@ use Rattle.dht_types.specs.declared.locks.Key.{Key}
 use Rattle.dht_brick.specs.declared.journal.JournalEntry.{JournalEntry}
 use Rattle.dht_section.specs.Claims.{Claim, Listed, no_claim}
 use Rattle.dht_section.specs.Disk.{Disk}
-use Rattle.dht_section.specs.Stages.{IsStable}
+use Rattle.dht_section.specs.Stages.{IsCallStable}
 use Rattle.dht_section.specs.declared.caller.Caller.{Ghosts as CallerGhosts}
 use Rattle.dht_world.proofs.LineLaws.{nat_cases}
 use Rattle.dht_invariant.specs.Transition.{scene, Transition}
 use Rattle.dht_world.specs.Bricks.{Logged}
 use Rattle.dht_types.specs.Counted.{CallsCounted}
-use Rattle.dht_world.specs.Clients.{client, claim_at, claims_of, Works, ClientFits}
+use Rattle.dht_world.specs.Clients.{client, claim_at, claims_of, Rests, Works, ClientFits}
 use Rattle.dht_world.specs.World.{Summary, IsSummary, Fit, HoldersCall}
 use Rattle.dht_world.specs.declared.places.Place.{Place}
 use Rattle.dht_world.specs.declared.places.Place.TheVariants.{Living, Dead}
@@ -42,7 +42,7 @@ module _ {C : Type 0} (g : CallerGhosts C) where
   claims_set places c k l = λ j. λ i. claims_set_at places c k l i j
 
   -- who claims a lock has a pending call
-  claims_call_by : (d : Disk) (s : History) (claims : ℕ → Claim) (c : ℕ) (k : C) (n : CallNo) (b : Bool) (x : Claim) → MatchBool b (Works g d s claims c k n) (s.pending c ≡ None) → (i : ℕ) (key : Key) → Listed (cond b x no_claim).locks i key → is_some (s.pending c) ≡ true
+  claims_call_by : (d : Disk) (s : History) (claims : ℕ → Claim) (c : ℕ) (k : C) (n : CallNo) (b : Bool) (x : Claim) → MatchBool b (Works g d s claims c k n) (Rests g s c k) → (i : ℕ) (key : Key) → Listed (cond b x no_claim).locks i key → is_some (s.pending c) ≡ true
   claims_call_by d s claims c k n true x h i key l = ap is_some h.runs
   claims_call_by d s claims c k n false x h i key l = absurd l
 
@@ -65,8 +65,8 @@ module _ {C : Type 0} (g : CallerGhosts C) where
     pub same : (w : ℕ) → w ≢ c → slice_get after w ≡ slice_get places w
     pub own : ClientFits g e t (claims_of g after) c (slice_get after c)
 
-  module _ (stable : (x : C) → IsStable (g.stage x)) where
-    works_on : (d e : Disk) (s t : History) (p q : ℕ → Claim) (c w : ℕ) (k : C) (n : CallNo) (b : Bool) → w ≢ c → Transition c d s p e t q → Passes c s t → CallsCounted s → MatchBool b (Works g d s p w k n) (s.pending w ≡ None) → MatchBool b (Works g e t q w k n) (t.pending w ≡ None)
+  module _ (stable : (x : C) → IsCallStable (g.stage x)) where
+    works_on : (d e : Disk) (s t : History) (p q : ℕ → Claim) (c w : ℕ) (k : C) (n : CallNo) (b : Bool) → w ≢ c → Transition c d s p e t q → Passes c s t → CallsCounted s → MatchBool b (Works g d s p w k n) (Rests g s w k) → MatchBool b (Works g e t q w k n) (Rests g t w k)
     works_on d e s t p q c w k n true ne tr ps counted h =
         let later = tr.later in
         let begun = h.begun in
@@ -76,11 +76,12 @@ module _ {C : Type 0} (g : CallerGhosts C) where
           number = h.number;
           named = h.named;
           begun = omega arith;
-          knows = stable k (scene d s p (client w) h.mine) (scene e t q (client w) h.mine) h.knows (tr.others (client w) h.mine ne h.runs);
+          called = ps.called w ne ∙ h.called;
+          knows = stable k (scene d s p (client w) h.mine) (scene e t q (client w) h.mine) h.knows (tr.others (client w) h.mine ne h.runs) refl;
           in_time = λ u. subst (λ (ws : List ℕ). h.mine.steps + (g.stage k).variant ≤ cost (length ws) h.mine.call) (sym ps.weights)
               (h.in_time (undisturbed_before c s t h.mine h.mine ps (counted.numbered w h.mine h.runs) refl refl u));
         }
-    works_on d e s t p q c w k n false ne tr ps counted h = tr.pending w ne ∙ h
+    works_on d e s t p q c w k n false ne tr ps counted h = record { none = tr.pending w ne ∙ h.none; fresh = λ u. h.fresh (sym (ps.called w ne) ∙ u) }
 
     client_on : (d e : Disk) (s t : History) (p q : ℕ → Claim) (c w : ℕ) (o : Option (Place C)) → w ≢ c → Transition c d s p e t q → Passes c s t → CallsCounted s → ClientFits g d s p w o → ClientFits g e t q w o
     client_on d e s t p q c w None ne tr ps counted h = tr.pending w ne ∙ h

@@ -8,6 +8,7 @@ pub record Passes (c : ℕ) (s t : History) : Type 0 where
   pub calls : s.calls ≤ t.calls
   pub clean : t.clean ≡ true → s.clean ≡ true
   pub dead : (w : ℕ) → w ≢ c → t.dead w ≡ s.dead w
+  pub called : (w : ℕ) → w ≢ c → t.called w ≡ s.called w
   pub down : (b : ℕ) → length s.weights ≤ b → t.down b ≡ s.down b
 
 -- a call that was not disturbed by then was not before
@@ -26,5 +27,6 @@ passes_on c s t u p q =
       calls = omega arith;
       clean = λ h. p.clean (q.clean h);
       dead = λ w ne. q.dead w ne ∙ p.dead w ne;
+      called = λ w ne. q.called w ne ∙ p.called w ne;
       down = λ i l. q.down i (let bricks : length t.weights ≡ length s.weights = ap (λ (ws : List ℕ). length ws) p.weights in omega arith) ∙ p.down i l;
     }

@@ -10,7 +10,7 @@ pub mod StepLaws
 pub mod NotedLaws
 pub mod WentLaws
 pub mod AtLaws
-pub mod HealedLaws
+pub mod EndLaws
 pub mod AdvanceLaws
 pub mod BlockLaws
 pub mod CauseLaws

@@ -22,7 +22,7 @@ use Rattle.dht_brick.specs.declared.journal.JournalEntry.{JournalEntry}
 use Rattle.dht_section.specs.Begins.{IsRefusal}
 use Rattle.dht_section.specs.Disk.{Disk}
 use Rattle.dht_section.specs.declared.caller.Caller.{Ghosts as CallerGhosts}
-use Rattle.dht_section.specs.Stages.{IsStable}
+use Rattle.dht_section.specs.Stages.{IsCallStable}
 use Rattle.dht_invariant.specs.Laws.{TransitionLaws}
 use Rattle.dht_world.specs.Answers.{answered_in}
 use Rattle.dht_world.specs.Bricks.{disk_of, journals_of, AreReady, without_client}
@@ -60,7 +60,7 @@ module _ {B C : Type 0} (b : BrickGhosts B) (g : CallerGhosts C) where
   pub adds_one : (old new : World B C) (n : ℕ) (e : Event) (past before after : List Line) (x : Line) → after ≡ before ++ x ∷ [] → IsAt b g new (past ++ x ∷ []) → Block (history_of past) n e (x ∷ []) → cause_of (history_of past) e ≡ None → Adds b g old new n e past before after
   adds_one old new n e past before after x added at block accepted = (x ∷ [], added, advances old new n e past (x ∷ []) at block accepted)
 
-  module _ (laws : TransitionLaws) (stable : (x : C) → IsStable (g.stage x)) where
+  module _ (laws : TransitionLaws) (stable : (x : C) → IsCallStable (g.stage x)) where
     -- a client called
     module _ (w : World B C) (past : List Line) (c i : ℕ) (call : Call Directory) (what : Call Gfid) (old new : Place C) (begun : Result (Unit {0}) Errno) (at : IsAt b g w past) (ei : i ≡ c) (was : old ≡ get_or w.clients.items i old) (accepted : cause_of (history_of past) (event.Call c call) ≡ None) (v : Starts g old w.weights w.run (record { 0 = w.calls + 1 }) what begun new) where
       abbrev number : CallNo

@@ -1,6 +1,6 @@
 -- A call that was accepted: it begins, or it is refused before its first request.
 use Rattle.std.proofs.Common.{◌≡◌, ◌<◌, ◌≤◌, ◌+◌, ◌⊎◌, ℕ, Bool, true, false, List, [], ◌∷◌, ◌++◌, refl, sym, ap, ◌∙◌, subst, inl, inr, length, arith, length-append, Result, Ok, Err}
-use Rattle.std.specs.Prelude.{Option, Some, None, is_some, nat_eq, nat_lt, if◌then◌else◌, MatchBool, MatchOption, OnOk, is_ok, slice_get, slice_set}
+use Rattle.std.specs.Prelude.{Option, Some, None, is_some, nat_eq, nat_lt, not, if◌then◌else◌, MatchBool, MatchOption, OnOk, is_ok, slice_get, slice_set}
 use Rattle.std.specs.FinMap.{get-empty}
 use Rattle.std.proofs.Math.ListN.{length-set}
 use Rattle.std.proofs.lemmas.Bool.{ltb-false}
@@ -30,12 +30,12 @@ use Rattle.dht_section.specs.Begins.{Begins, IsRefusal}
 use Rattle.dht_section.specs.Claims.{Claim, no_claim}
 use Rattle.dht_section.specs.Disk.{Disk}
 use Rattle.dht_section.specs.Scene.{Scene}
-use Rattle.dht_section.specs.Stages.{IsStable}
+use Rattle.dht_section.specs.Stages.{IsCallStable}
 use Rattle.dht_section.specs.declared.caller.Caller.{Ghosts as CallerGhosts}
 use Rattle.dht_invariant.specs.Laws.{TransitionLaws}
 use Rattle.dht_invariant.specs.Transition.{scene, Transition}
 use Rattle.dht_world.specs.Bricks.{nothing}
-use Rattle.dht_world.specs.Clients.{client, claim_at, claims_of, Works, ClientFits, Starts}
+use Rattle.dht_world.specs.Clients.{client, claim_at, claims_of, Rests, Works, ClientFits, Starts}
 use Rattle.dht_world.specs.Following.{refusal_point, IsUnderCall}
 use Rattle.dht_world.specs.World.{Summary, At}
 use Rattle.dht_world.specs.declared.places.Place.{Place}
@@ -106,15 +106,19 @@ under_refused line k c None e h = elim h [
   | inr q ↦ inr (ap (λ (y : Errno). Answered k c (refusal_point line y) (Fault y) ∷ []) (same_error e Enomem (Err e) refl q))
 ]
 
+not_true : (b : Bool) → not b ≡ true → b ≡ false
+not_true true e = absurd (let z : false ≡ true = e in cc)
+not_true false e = refl
+
 -- ---- the answer may come
 
 -- a call may answer so that was accepted just now
 abbrev MayRefuse : History → PendingCall → ℕ → Errno → Type 0
 MayRefuse t r line e = Answers t r (refusal_point line e) (Fault e) × HeedsRefusal r (Fault e)
 
-module _ (t : History) (callers : List ℕ) (line : ℕ) (k : CallNo) (what : Call Gfid) (e : Errno) where
+module _ (t : History) (called : Bool) (callers : List ℕ) (line : ℕ) (k : CallNo) (what : Call Gfid) (e : Errno) where
   abbrev r : PendingCall
-  r = accepted callers line k what
+  r = accepted called callers line k what
 
   of_name : refusal_at_once what ≡ Some e → MayRefuse t r line e
   of_name h =
@@ -147,7 +151,7 @@ module _ (t : History) (callers : List ℕ) (line : ℕ) (k : CallNo) (what : Ca
 
 -- ---- the world after a call that was accepted
 
-module _ {C : Type 0} (g : CallerGhosts C) (laws : TransitionLaws) (stable : (x : C) → IsStable (g.stage x)) where
+module _ {C : Type 0} (g : CallerGhosts C) (laws : TransitionLaws) (stable : (x : C) → IsCallStable (g.stage x)) where
   -- what the world keeps of its lines, with a call more, when there are so many lines
   abbrev pub with_call : Summary → ℕ → Summary
   with_call n lines = record n { calls = n.calls + 1; lines = lines; answers = n.answers ++ None ∷ [] }
@@ -166,7 +170,7 @@ module _ {C : Type 0} (g : CallerGhosts C) (laws : TransitionLaws) (stable : (x 
     p = claims_of g places
 
     abbrev mine : PendingCall
-    mine = accepted s.callers (s.size + 1) k what
+    mine = accepted (s.called c) s.callers (s.size + 1) k what
 
     here : slice_get places c ≡ Some (Living v.before v.number)
     here = was ∙ ap (λ (y : Place C). Some y) v.was
@@ -174,8 +178,15 @@ module _ {C : Type 0} (g : CallerGhosts C) (laws : TransitionLaws) (stable : (x 
     fits : ClientFits g d s p c (Some (Living v.before v.number))
     fits = subst (ClientFits g d s p c) here (h.fit.each c)
 
+    rests : Rests g s c v.before
+    rests = idle_is _ _ (g.is_busy v.before) idle fits.2
+
     none : s.pending c ≡ None
-    none = idle_is _ _ (g.is_busy v.before) idle fits.2
+    none = rests.none
+
+    -- after its call line the client has called
+    has_called : t.called c ≡ true
+    has_called = put_same nat_eq exact_nat s.called c true
 
     free : p c ≡ no_claim
     free = ap (claim_at g) here ∙ idle_claims g laws stable v.before v.number idle
@@ -212,7 +223,7 @@ module _ {C : Type 0} (g : CallerGhosts C) (laws : TransitionLaws) (stable : (x 
         let room = summary.places in
         let busy : g.is_busy v.after ≡ true = v.busy ∙ ap (λ (b : Result (Unit {0}) Errno). is_ok b) eb in
         let copy : (g.stage v.after).claims.copy ≡ None = subst (λ (b : Result (Unit {0}) Errno). OnOk b ((g.stage v.after).claims.copy ≡ None)) eb v.copy in
-        let knows : (x : Scene) → Begins (g.number v.before) ws n.run k what x → (g.stage v.after).knows x = subst (λ (b : Result (Unit {0}) Errno). OnOk b ((x : Scene) → Begins (g.number v.before) ws n.run k what x → (g.stage v.after).knows x)) eb v.knows in
+        let knows : (x : Scene) → Begins (g.number v.before) (g.is_new v.before) ws n.run k what x → (g.stage v.after).knows x = subst (λ (b : Result (Unit {0}) Errno). OnOk b ((x : Scene) → Begins (g.number v.before) (g.is_new v.before) ws n.run k what x → (g.stage v.after).knows x)) eb v.knows in
         let bound : (g.stage v.after).variant ≤ cost (length ws) what = subst (λ (b : Result (Unit {0}) Errno). OnOk b ((g.stage v.after).variant ≤ cost (length ws) what)) eb v.variant in
         let refused : IsRefusal (refusal_at_start (length ws) what) (Ok tt) = subst (IsRefusal (refusal_at_start (length ws) what)) eb v.refused in
         let claims = busy_claims g laws stable v.after k busy in
@@ -221,7 +232,7 @@ module _ {C : Type 0} (g : CallerGhosts C) (laws : TransitionLaws) (stable : (x 
         let set : put nat_eq p c (g.stage v.after).claims ≡ claims_of g (slice_set places c new) = ap (put nat_eq p c) (sym claims ∙ ap (λ (y : Place C). claim_at g (Some y)) (sym v.is)) ∙ claims_set g places c new within in
         at_by g laws stable c d d js js places (slice_set places c new) ws n (with_call n (n.lines + 1)) past (called ∷ []) h ((h.legal.whole, omega arith, none), tt) refl (tt, tt) (λ b i q same. same) (tt, tt) (record {
           transition = subst (λ (q : ℕ → Claim). Transition c d s p d t q) set both;
-          passes = record { weights = refl; calls = omega arith; clean = λ q. q; dead = λ w ne. refl; down = λ b l. refl };
+          passes = record { weights = refl; calls = omega arith; clean = λ q. q; dead = λ w ne. refl; called = λ w ne. put_other nat_eq exact_nat s.called c true w ne; down = λ b l. refl };
           logged = record { steps = fit.logged.steps; slots = fit.logged.slots; dirs = fit.logged.dirs };
           summary = record { run = summary.run; calls = omega arith; lines = omega arith; requests = summary.requests; answers = summary.answers ∙ answered_more n.answers; places = length-append n.answers (None ∷ []) ∙ omega arith; fewer = omega arith; less = omega arith };
           many = length-set places c new;
@@ -229,13 +240,14 @@ module _ {C : Type 0} (g : CallerGhosts C) (laws : TransitionLaws) (stable : (x 
           own = own_set g laws stable d t places c new within (subst (λ (y : Place C). ClientFits g d t (claims_of g (slice_set places c new)) c (Some y)) (sym v.is) (
             fits.0,
             v.same ∙ fits.1,
-            subst (λ (b : Bool). MatchBool b (Works g d t (claims_of g (slice_set places c new)) c v.after k) (t.pending c ≡ None)) (sym busy) (record {
+            subst (λ (b : Bool). MatchBool b (Works g d t (claims_of g (slice_set places c new)) c v.after k) (Rests g t c v.after)) (sym busy) (record {
               mine = mine;
               runs = runs;
               number = refl;
               named = named_is (length ws) what (begun_is (refusal_at_start (length ws) what) refused);
+              called = has_called;
               begun = omega arith;
-              knows = knows (scene d t (claims_of g (slice_set places c new)) (client c) mine) (record { who = sym fits.1; weights = fit.same_weights; run = summary.run; number = refl; call = refl; fresh = refl });
+              knows = knows (scene d t (claims_of g (slice_set places c new)) (client c) mine) (record { who = sym fits.1; weights = fit.same_weights; run = summary.run; number = refl; call = refl; fresh = refl; steps = refl; first = λ q. rests.fresh (not_true (s.called c) q) });
               in_time = λ q. subst (λ (y : List ℕ). 0 + (g.stage v.after).variant ≤ cost (length y) what) (sym fit.same_weights) (omega arith);
             }),
           ));
@@ -269,14 +281,14 @@ module _ {C : Type 0} (g : CallerGhosts C) (laws : TransitionLaws) (stable : (x 
         let set : p ≡ claims_of g (slice_set places c new) =
         put_id p c no_claim free ∙ (ap (put nat_eq p c) (sym (idle_claims g laws stable v.after k still) ∙ ap (λ (y : Place C). claim_at g (Some y)) (sym v.is)) ∙ claims_set g places c new within) in
         let here_line : n.lines + 1 ≡ s.size + 1 = omega arith in
-        let may = may_refuse t s.callers (s.size + 1) k what e (length ws) (omega arith)
+        let may = may_refuse t (s.called c) s.callers (s.size + 1) k what e (length ws) (omega arith)
         (λ q. ap (λ (y : Tree). y.dirs (directory_of what)) (point_with_line s called) ∙ home_beyond d s p (directory_of what) fit.kept beyond (omega arith))
         refused in
         let answers : Answers t mine (refusal_point (n.lines + 1) e) (Fault e) = subst (λ (y : ℕ). Answers t mine (refusal_point y e) (Fault e)) (sym here_line) may.0 in
         at_by g laws stable c d d js js places (slice_set places c new) ws n (with_call n (n.lines + 1 + 1)) past (called ∷ answer ∷ []) h
         ((h.legal.whole, omega arith, none), ((refl, (mine, record { runs = runs; number = refl }, answers, may.1)), tt)) refl (tt, (tt, tt)) (λ b i q same. same) (tt, (tt, tt)) (record {
           transition = subst (λ (q : ℕ → Claim). Transition c d s p d u q) set both;
-          passes = record { weights = refl; calls = omega arith; clean = and_first s.clean _; dead = λ w ne. refl; down = λ b l. refl };
+          passes = record { weights = refl; calls = omega arith; clean = and_first s.clean _; dead = λ w ne. refl; called = λ w ne. put_other nat_eq exact_nat s.called c true w ne; down = λ b l. refl };
           logged = record { steps = fit.logged.steps; slots = fit.logged.slots; dirs = fit.logged.dirs };
           summary = record {
             run = summary.run;
@@ -293,6 +305,6 @@ module _ {C : Type 0} (g : CallerGhosts C) (laws : TransitionLaws) (stable : (x 
           own = own_set g laws stable d u places c new within (subst (λ (y : Place C). ClientFits g d u (claims_of g (slice_set places c new)) c (Some y)) (sym v.is) (
             fits.0,
             v.same ∙ fits.1,
-            subst (λ (b : Bool). MatchBool b (Works g d u (claims_of g (slice_set places c new)) c v.after k) (u.pending c ≡ None)) (sym still) (put_same nat_eq exact_nat t.pending c None),
+            subst (λ (b : Bool). MatchBool b (Works g d u (claims_of g (slice_set places c new)) c v.after k) (Rests g u c v.after)) (sym still) (record { none = put_same nat_eq exact_nat t.pending c None; fresh = λ q. absurd (let z : true ≡ false = sym has_called ∙ q in cc) }),
           ));
         })

@@ -19,7 +19,7 @@ use Rattle.dht_invariant.specs.Remount.{Remounts, RemountsInPart}
 use Rattle.dht_invariant.proofs.RemountKeeps.{remounts_keep, remounts_in_part_keep}
 use Rattle.dht_world.specs.Bricks.{disk_of, journals_of, volume_of, remounted_in, AreFresh, AreReady, AreReadyInEither, SomeBecame}
 use Rattle.dht_types.specs.Counted.{CallsCounted, IsListed}
-use Rattle.dht_world.specs.Clients.{Works, ClientFits, AreNewClients, claim_at, claims_of, is_busy_at}
+use Rattle.dht_world.specs.Clients.{Rests, Works, ClientFits, AreNewClients, claim_at, claims_of, is_busy_at}
 use Rattle.dht_world.specs.Following.{remount_cause}
 use Rattle.dht_world.specs.Places.{IsAt, IsRemounting, summary_of}
 use Rattle.dht_world.specs.World.{Summary, Fit, At}
@@ -100,7 +100,7 @@ module _ {C : Type 0} (g : CallerGhosts C) where
   busy_pends d s p c Dead h e = absurd (let z : false ≡ true = e in cc)
   busy_pends d s p c (Living x n) h e = by (g.is_busy x) e h.2
     where
-      by : (b : Bool) → b ≡ true → MatchBool b (Works g d s p c x n) (s.pending c ≡ None) → is_some (s.pending c) ≡ true
+      by : (b : Bool) → b ≡ true → MatchBool b (Works g d s p c x n) (Rests g s c x) → is_some (s.pending c) ≡ true
       by true e w = ap is_some w.runs
       by false e w = absurd (let z : false ≡ true = e in cc)
 
@@ -108,9 +108,9 @@ module _ {C : Type 0} (g : CallerGhosts C) where
   idle_none d s p c Dead h e = h.1
   idle_none d s p c (Living x n) h e = by (g.is_busy x) e h.2
     where
-      by : (b : Bool) → b ≡ false → MatchBool b (Works g d s p c x n) (s.pending c ≡ None) → s.pending c ≡ None
+      by : (b : Bool) → b ≡ false → MatchBool b (Works g d s p c x n) (Rests g s c x) → s.pending c ≡ None
       by true e w = absurd (let z : true ≡ false = e in cc)
-      by false e w = w
+      by false e w = w.none
 
   -- some client has a pending call, or none has
   called_is : (d : Disk) (js : ℕ → List JournalEntry) (places : List (Place C)) (ws : List ℕ) (n : Summary) (s : History) → Fit g d js places ws n s → list_any (is_busy_at g) places ≡ not (is_empty s.callers)
@@ -144,7 +144,7 @@ module _ {C : Type 0} (g : CallerGhosts C) where
   idle_claim d s p c (Some Dead) none h = refl
   idle_claim d s p c (Some (Living x n)) none h = by (g.is_busy x) h.2
     where
-      by : (b : Bool) → MatchBool b (Works g d s p c x n) (s.pending c ≡ None) → (if b then (g.stage x).claims else no_claim) ≡ no_claim
+      by : (b : Bool) → MatchBool b (Works g d s p c x n) (Rests g s c x) → (if b then (g.stage x).claims else no_claim) ≡ no_claim
       by true w = absurd (not_none (s.pending c) w.mine none w.runs)
       by false w = refl
 
@@ -153,7 +153,7 @@ module _ {C : Type 0} (g : CallerGhosts C) where
   idle_fits d e s p c (Some Dead) none h = h
   idle_fits d e s p c (Some (Living x n)) none h = (h.0, h.1, by (g.is_busy x) h.2)
     where
-      by : (b : Bool) → MatchBool b (Works g d s p c x n) (s.pending c ≡ None) → MatchBool b (Works g e s p c x n) (s.pending c ≡ None)
+      by : (b : Bool) → MatchBool b (Works g d s p c x n) (Rests g s c x) → MatchBool b (Works g e s p c x n) (Rests g s c x)
       by true w = absurd (not_none (s.pending c) w.mine none w.runs)
       by false w = w
 

@@ -12,7 +12,7 @@ use Rattle.dht_brick.specs.declared.brick.Brick.{Ghosts as BrickGhosts}
 use Rattle.dht_brick.specs.declared.journal.JournalEntry.{JournalEntry}
 use Rattle.dht_brick.specs.declared.replies.Reply.{Reply}
 use Rattle.dht_section.specs.Disk.{Disk}
-use Rattle.dht_section.specs.Stages.{MaySend, IsStable, CallMoves}
+use Rattle.dht_section.specs.Stages.{MaySend, IsCallStable, CallMoves}
 use Rattle.dht_section.specs.declared.caller.Caller.{Ghosts as CallerGhosts}
 use Rattle.dht_section.specs.declared.machine.Ask.{Ask}
 use Rattle.dht_section.specs.declared.machine.Finish.{Finish}
@@ -23,11 +23,11 @@ use Rattle.dht_world.specs.Clients.{client, claims_of, IsBusy, Asks, Takes}
 use Rattle.dht_world.specs.Following.{Block, cause_of}
 use Rattle.dht_world.specs.Lines.{request_lines}
 use Rattle.dht_world.specs.Places.{IsAt, summary_of}
-use Rattle.dht_world.specs.World.{At, HealsWhole}
+use Rattle.dht_world.specs.World.{At, EndsWell}
 use Rattle.dht_world.specs.declared.events.World.{World}
 use Rattle.dht_world.specs.declared.places.Place.{Place}
 use Rattle.dht_world.specs.declared.places.Place.TheVariants.{Living}
-use Rattle.dht_world.proofs.AdvanceLaws.{Answers, works_at, may_ask, call_there, gone, told, answer_served, at_on, at_answered, healed_then}
+use Rattle.dht_world.proofs.AdvanceLaws.{Answers, works_at, may_ask, call_there, gone, told, answer_served, at_on, at_answered, ends_then}
 use Rattle.dht_world.proofs.BlockLaws.{block_on, block_answered}
 use Rattle.dht_world.proofs.BrickLaws.{may_be_sent}
 use Rattle.dht_world.proofs.CauseLaws.{busy_at}
@@ -35,7 +35,7 @@ use Rattle.dht_world.proofs.CauseLaws.{busy_at}
 same_place : {C : Type 0} (x y : C) (m n : CallNo) → Living x m ≡ Living y n → (x ≡ y) × (m ≡ n)
 same_place x y m n e = (cc, cc)
 
-module _ {B C : Type 0} (b : BrickGhosts B) (g : CallerGhosts C) (laws : TransitionLaws) (stable : (x : C) → IsStable (g.stage x)) (permitted : (x : C) → g.is_busy x ≡ true → MaySend (g.stage x)) (goes_on : (x : C) → g.is_busy x ≡ true → 0 < (g.stage x).variant) where
+module _ {B C : Type 0} (b : BrickGhosts B) (g : CallerGhosts C) (laws : TransitionLaws) (stable : (x : C) → IsCallStable (g.stage x)) (permitted : (x : C) → g.is_busy x ≡ true → MaySend (g.stage x)) (goes_on : (x : C) → g.is_busy x ≡ true → 0 < (g.stage x).variant) where
   -- the client of a step that is accepted is busy
   pub step_busy : (w : World B C) (past : List Line) (c : ℕ) (p : Place C) → IsAt b g w past → cause_of (history_of past) (event.Step c) ≡ None → slice_get w.clients.items c ≡ Some p → IsBusy g p
   step_busy w past c p at accepted here = busy_at g (disk_of b.state w.bricks.items) (journals_of b.state w.bricks.items) w.clients.items w.weights (summary_of w) (history_of past) at.led.fit c p here accepted
@@ -119,10 +119,10 @@ module _ {B C : Type 0} (b : BrickGhosts B) (g : CallerGhosts C) (laws : Transit
           (subst (λ (m : ℕ). At g e ks (slice_set w.clients.items c new) w.weights (record (summary_of w) { lines = w.lines + m + 1; requests = w.requests + 1; answers = slice_set w.answers.items (k.0 - 1) (gfid_in f.answer) }) (past ++ (xs ++ Answered k (client c) f.at f.answer ∷ []))) (sym many)
           (at_answered g laws stable permitted goes_on d e js ks w.clients.items w.weights (summary_of w) past c v.client k a r at.led l is_here busy v.asks small answers u.after new f (u.is ∙ ap (λ (m : CallNo). Living u.after m) both.1) (u.same ∙ ap g.number both.0) ends.0 ends.1))
 
-      -- and where it was a heal that was alone, its directory is whole then
-      pub step_healed : (count : ℕ) (q new : Place C) (f : Finish) → slice_get w.clients.items c ≡ Some q → count ≡ length xs → Takes g q r (w.lines + count) (Some f) new → HealsWhole e (past ++ (xs ++ Answered k (client c) f.at f.answer ∷ []))
-      step_healed count q new f there many u =
+      -- and what the answer tells of a call that was alone holds then
+      pub step_ends : (count : ℕ) (q new : Place C) (f : Finish) → slice_get w.clients.items c ≡ Some q → count ≡ length xs → Takes g q r (w.lines + count) (Some f) new → EndsWell e (past ++ (xs ++ Answered k (client c) f.at f.answer ∷ []))
+      step_ends count q new f there many u =
           let both = same_place u.before v.client u.number k (sym u.was ∙ (let z : Some q ≡ Some p = sym there ∙ here in let y : q ≡ p = cc in y) ∙ v.is) in
           let moves : CallMoves g.is_busy g.stage v.client u.after r (w.lines + count) (Some f) = subst (λ (x : C). CallMoves g.is_busy g.stage x u.after r (w.lines + count) (Some f)) both.0 u.moves in
           let ends = moves _ _ (answer_served g laws stable permitted goes_on d e js ks w.clients.items w.weights (summary_of w) past c v.client k a r at.led l is_here busy v.asks small answers (w.lines + count) (line_is count many)) in
-          healed_then g laws stable permitted goes_on d e js ks w.clients.items w.weights (summary_of w) past c v.client k a r at.led l is_here busy v.asks small answers f ends.1.earned.1
+          ends_then g laws stable permitted goes_on d e js ks w.clients.items w.weights (summary_of w) past c v.client k a r at.led l is_here busy v.asks small answers f ends.1.earned.1 ends.2

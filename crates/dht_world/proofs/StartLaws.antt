@@ -16,7 +16,7 @@ use Rattle.dht_invariant.specs.Laws.{NewBricksMeet, no_claims}
 use Rattle.dht_invariant.specs.New.{AreNew}
 use Rattle.dht_invariant.proofs.Newborn.{new_invariant, new_early}
 use Rattle.dht_world.specs.Bricks.{AreNewborn, act_of, changed_slots}
-use Rattle.dht_world.specs.Clients.{Works, ClientFits, IsNewAt, AreNewClients, claim_at, claims_of}
+use Rattle.dht_world.specs.Clients.{Rests, Works, ClientFits, IsNewAt, AreNewClients, claim_at, claims_of}
 use Rattle.dht_world.specs.Following.{Block}
 use Rattle.dht_world.specs.World.{At}
 use Rattle.dht_world.specs.declared.places.Place.{Place}
@@ -44,7 +44,7 @@ module _ {C : Type 0} (g : CallerGhosts C) where
   pub new_fits : (d : Disk) (s : History) (p : ℕ → Claim) (c : ℕ) (o : Option (Place C)) → s.dead c ≡ false → s.pending c ≡ None → IsNewAt g c o → ClientFits g d s p c o
   new_fits d s p c None living none h = none
   new_fits d s p c (Some Dead) living none h = absurd h
-  new_fits d s p c (Some (Living x n)) living none h = (living, h.0, subst (λ (b : Bool). MatchBool b (Works g d s p c x n) (s.pending c ≡ None)) (sym h.1) none)
+  new_fits d s p c (Some (Living x n)) living none h = (living, h.0, subst (λ (b : Bool). MatchBool b (Works g d s p c x n) (Rests g s c x)) (sym h.1) (record { none = none; fresh = λ q. h.3 }))
 
   -- before the first event after the volume line
   pub at_start : (d : Disk) (js : ℕ → List JournalEntry) (places : List (Place C)) (ws : List ℕ) → AreNewborn ws d js → HasWeight ws → d.count ≡ length ws → 0 < d.count → d.count ≤ 32 → length places ≡ 64 → AreNewClients g places → At g d js places ws (record { run = 1; calls = 0; lines = 1; requests = 0; answers = [] }) (Volume ws ∷ [])

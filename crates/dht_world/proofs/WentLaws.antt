@@ -85,6 +85,7 @@ pub record Went (d : Disk) (s : History) (p : ℕ → Claim) (c : ClientNo) (min
   pub same_answered : t.answered ≡ s.answered
   pub same_down : t.down ≡ s.down
   pub same_dead : t.dead ≡ s.dead
+  pub same_called : t.called ≡ s.called
   pub requests : t.requests ≡ s.requests + 1
   pub size : t.size ≡ s.size + length lines
 
@@ -212,7 +213,7 @@ module _ (d : Disk) (js : ℕ → List JournalEntry) (s : History) (p : ℕ → 
           claims = refl;
           who = refl;
           calls = refl;
-          mine = record { number = refl; call = refl; since = refl; alone = refl; was_down = refl; has_failed = refl; deeds_are = sym (ap (deeds_by (scene d s p c mine) (s.size + 1)) none) };
+          mine = record { number = refl; call = refl; since = refl; alone = refl; is_first = refl; steps = omega arith; was_down = refl; has_failed = refl; deeds_are = sym (ap (deeds_by (scene d s p c mine) (s.size + 1)) none) };
           tree = sym (ap (λ (x : Option TreeStep). tree_by x s.tree) none);
           run = refl;
           weights = refl;
@@ -229,7 +230,7 @@ module _ (d : Disk) (js : ℕ → List JournalEntry) (s : History) (p : ℕ → 
           client = h.client;
         };
         counted = counted;
-        passes = record { weights = refl; calls = omega arith; clean = and_first s.clean _; dead = λ w ne. refl; down = λ b l. refl };
+        passes = record { weights = refl; calls = omega arith; clean = and_first s.clean _; dead = λ w ne. refl; called = λ w ne. refl; down = λ b l. refl };
         owed = ap (λ (b : Bool). owed_if b (record { call = k; client = c; brick = a.brick.0; request = kind_of a.request })) change;
         logged = record {
           steps = λ b. ap (λ (f : ℕ → List JournalEntry). map act_of (f b)) h.journals
@@ -242,6 +243,7 @@ module _ (d : Disk) (js : ℕ → List JournalEntry) (s : History) (p : ℕ → 
         same_answered = refl;
         same_down = refl;
         same_dead = refl;
+        same_called = refl;
         requests = refl;
         size = refl;
       }
@@ -378,7 +380,7 @@ module _ (d : Disk) (js : ℕ → List JournalEntry) (s : History) (p : ℕ → 
           claims = refl;
           who = refl;
           calls = refl;
-          mine = record { number = refl; call = refl; since = refl; alone = refl; was_down = refl; has_failed = refl; deeds_are = sym (ap (deeds_by (scene d s p c mine) (s.size + 1 + 1)) some) };
+          mine = record { number = refl; call = refl; since = refl; alone = refl; is_first = refl; steps = omega arith; was_down = refl; has_failed = refl; deeds_are = sym (ap (deeds_by (scene d s p c mine) (s.size + 1 + 1)) some) };
           tree = sym (ap (λ (x : Option TreeStep). tree_by x s.tree) some);
           run = refl;
           weights = refl;
@@ -395,7 +397,7 @@ module _ (d : Disk) (js : ℕ → List JournalEntry) (s : History) (p : ℕ → 
           client = h.client;
         };
         counted = counted;
-        passes = record { weights = refl; calls = omega arith; clean = and_first s.clean _; dead = λ w ne. refl; down = λ b l. refl };
+        passes = record { weights = refl; calls = omega arith; clean = and_first s.clean _; dead = λ w ne. refl; called = λ w ne. refl; down = λ b l. refl };
         owed = refl;
         logged = record {
           steps = λ b. ap (λ (f : ℕ → List JournalEntry). map act_of (f b)) h.journals
@@ -408,6 +410,7 @@ module _ (d : Disk) (js : ℕ → List JournalEntry) (s : History) (p : ℕ → 
         same_answered = refl;
         same_down = refl;
         same_dead = refl;
+        same_called = refl;
         requests = refl;
         size = omega arith;
       }
@@ -482,6 +485,8 @@ module _ (d : Disk) (js : ℕ → List JournalEntry) (s : History) (p : ℕ → 
             call = refl;
             since = refl;
             alone = refl;
+            is_first = refl;
+            steps = omega arith;
             was_down = or_false mine.was_down ∙ ap (λ (x : ReplyKind). mine.was_down || is_down x) (sym replies);
             has_failed = or_false mine.has_failed ∙ ap (λ (x : ReplyKind). mine.has_failed || is_failed x) (sym replies);
             deeds_are = sym (ap (deeds_by (scene d s p c mine) (s.size + 1)) none);
@@ -502,7 +507,7 @@ module _ (d : Disk) (js : ℕ → List JournalEntry) (s : History) (p : ℕ → 
           client = h.client;
         };
         counted = counted;
-        passes = record { weights = refl; calls = omega arith; clean = λ q. q; dead = λ w ne. refl; down = λ b l. refl };
+        passes = record { weights = refl; calls = omega arith; clean = λ q. q; dead = λ w ne. refl; called = λ w ne. refl; down = λ b l. refl };
         owed = refl;
         logged = record {
           steps = λ b. ap (λ (f : ℕ → List JournalEntry). map act_of (f b)) h.journals
@@ -515,6 +520,7 @@ module _ (d : Disk) (js : ℕ → List JournalEntry) (s : History) (p : ℕ → 
         same_answered = refl;
         same_down = refl;
         same_dead = refl;
+        same_called = refl;
         requests = refl;
         size = refl;
       }

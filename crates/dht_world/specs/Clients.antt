@@ -1,5 +1,5 @@
 -- The 64 places of clients, and what holds of each.
-use Rattle.std.specs.Prelude.{ℕ, ◌+◌, ◌<◌, ◌≤◌, ◌≡◌, ◌≢◌, ◌⊎◌, Bool, true, false, if◌then◌else◌, MatchBool, Option, Some, None, Result, is_ok, OnOk, List, [], ◌∷◌, length, slice_get}
+use Rattle.std.specs.Prelude.{ℕ, ◌+◌, ◌≤◌, ◌≡◌, Bool, true, false, if◌then◌else◌, MatchBool, Option, Some, None, Result, is_ok, OnOk, List, length, slice_get}
 use Rattle.dht_types.specs.Calls.{refusal_at_once, refusal_at_start}
 use Rattle.dht_types.specs.Cost.{cost}
 use Rattle.dht_types.specs.History.{History, PendingCall, IsUndisturbed}
@@ -42,9 +42,15 @@ pub record Works {C : Type 0} (g : CallerGhosts C) (d : Disk) (s : History) (cla
   pub runs : s.pending c ≡ Some mine
   pub number : mine.number ≡ n
   pub named : refusal_at_once mine.call ≡ None
+  pub called : s.called c ≡ true
   pub begun : mine.since ≤ s.size
   pub knows : (g.stage x).knows (scene d s claims (client c) mine)
   pub in_time : IsUndisturbed s mine → mine.steps + (g.stage x).variant ≤ cost (length s.weights) mine.call
+
+-- no call of the client is pending, and it knows no layout if it has not called since the volume was mounted
+pub record Rests {C : Type 0} (g : CallerGhosts C) (s : History) (c : ℕ) (x : C) : Type 0 where
+  pub none : s.pending c ≡ None
+  pub fresh : s.called c ≡ false → g.is_new x ≡ true
 
 -- a client that lives has its place's number; one that is idle or dead has no pending call, nor is
 -- there one where no client is
@@ -52,13 +58,13 @@ abbrev pub ClientFits : {C : Type 0} → CallerGhosts C → Disk → History →
 ClientFits g d s claims c None = s.pending c ≡ None
 ClientFits g d s claims c (Some Dead) = (s.dead c ≡ true) × (s.pending c ≡ None)
 ClientFits g d s claims c (Some (Living x n)) =
-    (s.dead c ≡ false) × (g.number x ≡ client c) × MatchBool (g.is_busy x) (Works g d s claims c x n) (s.pending c ≡ None)
+    (s.dead c ≡ false) × (g.number x ≡ client c) × MatchBool (g.is_busy x) (Works g d s claims c x n) (Rests g s c x)
 
--- a client of a new world: it lives, has its place's number, is idle, and has not called
+-- a client of a new world: it lives, has its place's number, is idle, has not called, and knows no layout
 abbrev pub IsNewAt : {C : Type 0} → CallerGhosts C → ℕ → Option (Place C) → Type 0
 IsNewAt g c None = Unit {0}
 IsNewAt g c (Some Dead) = ⊥
-IsNewAt g c (Some (Living x n)) = (g.number x ≡ client c) × (g.is_busy x ≡ false) × (n.0 ≡ 0)
+IsNewAt g c (Some (Living x n)) = (g.number x ≡ client c) × (g.is_busy x ≡ false) × (n.0 ≡ 0) × (g.is_new x ≡ true)
 
 abbrev pub AreNewClients : {C : Type 0} → CallerGhosts C → List (Place C) → Type 0
 AreNewClients g places = (c : ℕ) → IsNewAt g c (slice_get places c)
@@ -114,7 +120,7 @@ pub record Starts {C : Type 0} (g : CallerGhosts C)
   pub same : g.number after ≡ g.number before
   pub copy : OnOk begun ((g.stage after).claims.copy ≡ None)
   pub knows : OnOk begun ((s : Scene)
-      → Begins (g.number before) ws run k call s → (g.stage after).knows s)
+      → Begins (g.number before) (g.is_new before) ws run k call s → (g.stage after).knows s)
   pub variant : OnOk begun ((g.stage after).variant ≤ cost (length ws) call)
 
 -- the client of a place took the reply to its request

@@ -8,7 +8,7 @@ use Rattle.dht_brick.specs.declared.brick.Brick.{Ghosts as BrickGhosts}
 use Rattle.dht_section.specs.declared.caller.Caller.{Ghosts as CallerGhosts}
 use Rattle.dht_world.specs.Bricks.{disk_of, journals_of, volume_of, remounted_in, AreFresh, AreReady, AreReadyInEither, SomeBecame}
 use Rattle.dht_world.specs.Following.{cause_of, Block}
-use Rattle.dht_world.specs.World.{Summary, At, HealsWhole, HoldersCall}
+use Rattle.dht_world.specs.World.{Summary, At, EndsWell, HoldersCall}
 use Rattle.dht_world.specs.declared.events.World.{World}
 
 -- what it keeps of its lines
@@ -27,11 +27,11 @@ IsLed b c w past =
     At c (disk_of b.state w.bricks.items) (journals_of b.state w.bricks.items)
     w.clients.items w.weights (summary_of w) past
 
--- and its bricks are ready; where the last line is that of a heal, its directory is whole
+-- and its bricks are ready; and what the last line tells holds
 pub record IsAt {B C : Type 0} (b : BrickGhosts B) (c : CallerGhosts C) (w : World B C) (past : List Line) : Type 0 where
   pub led : IsLed b c w past
   pub ready : AreReady b.state w.weights w.run (history_of past).down w.bricks.items
-  pub healed : HealsWhole (disk_of b.state w.bricks.items) past
+  pub ends : EndsWell (disk_of b.state w.bricks.items) past
 
 -- nothing changed but how many lines the world has written
 pub record StaysSilent {B C : Type 0} (b : BrickGhosts B) (old new : World B C) : Type 0 where

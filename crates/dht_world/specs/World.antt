@@ -1,8 +1,10 @@
 -- What holds of a world between events.
-use Rattle.std.specs.Prelude.{ℕ, ◌≡◌, ◌≤◌, ◌<◌, true, false, is_some, Option, Some, List, [], ◌∷◌, ◌++◌, length, slice_get}
+use Rattle.std.specs.Prelude.{ℕ, ◌+◌, ◌≡◌, ◌≤◌, ◌<◌, true, false, is_some, Option, Some, List, [], ◌∷◌, ◌++◌, length, slice_get}
+use Rattle.dht_types.specs.Gfid.{Entry}
 use Rattle.dht_types.specs.History.{History, PendingCall, IsAlone, Legal, history_of, start}
-use Rattle.dht_types.specs.declared.calls.Answer.TheVariants.{Done}
-use Rattle.dht_types.specs.declared.calls.Call.TheVariants.{Heal}
+use Rattle.dht_types.specs.declared.calls.Answer.{Answer}
+use Rattle.dht_types.specs.declared.calls.Answer.TheVariants.{Done, File}
+use Rattle.dht_types.specs.declared.calls.Call.TheVariants.{Heal, Lookup}
 use Rattle.dht_types.specs.declared.events.Event.{Event}
 use Rattle.dht_types.specs.declared.events.Event.TheVariants.{Volume, Remount}
 use Rattle.dht_types.specs.declared.identifiers.CallNo.{CallNo}
@@ -18,6 +20,7 @@ use Rattle.dht_section.specs.Disk.{Disk, holders}
 use Rattle.dht_section.specs.Early.{Early}
 use Rattle.dht_section.specs.Healed.{IsHealed}
 use Rattle.dht_section.specs.Invariant.{Invariant}
+use Rattle.dht_section.specs.Truth.{Placed}
 use Rattle.dht_world.specs.Answers.{answered_in}
 use Rattle.dht_world.specs.Bricks.{Logged, AreNoted}
 use Rattle.dht_world.specs.Clients.{claims_of, ClientFits}
@@ -68,21 +71,33 @@ pub record At {C : Type 0} (g : CallerGhosts C) (d : Disk) (js : ℕ → List Jo
   pub noted : AreNoted js start past
   pub fit : Fit g d js places ws n (history_of past)
 
--- the last of the lines is the answer ok of a heal of this directory, which was the only call in its span
-pub record EndsWithHeal (lines : List Line) (g : Gfid) : Type 0 where
+-- the last of the lines is this answer of this call, which was the only one in its span
+pub record EndsAlone (lines : List Line) (r : PendingCall) (a : Answer) : Type 0 where
   pub before : List Line
   pub number : CallNo
   pub client : ClientNo
   pub point : Option ℕ
-  pub all : lines ≡ before ++ Answered number client point Done ∷ []
-  pub call : PendingCall
-  pub runs : (history_of before).pending client.0 ≡ Some call
-  pub heals : call.call ≡ Heal g
-  pub alone : IsAlone (history_of before) call
+  pub all : lines ≡ before ++ Answered number client point a ∷ []
+  pub runs : (history_of before).pending client.0 ≡ Some r
+  pub alone : IsAlone (history_of before) r
 
--- then the directory is whole on these bricks, and so is each above it
+-- where it is the answer ok of a heal, the directory is whole on these bricks, and so is each above it
 abbrev pub HealsWhole : Disk → List Line → Type 0
-HealsWhole d lines = (g : Gfid) → EndsWithHeal lines g → IsHealed d (history_of lines).tree g
+HealsWhole d lines =
+    (g : Gfid) (r : PendingCall) → EndsAlone lines r Done → r.call ≡ Heal g
+    → IsHealed d (history_of lines).tree g
+
+-- where it is a file, and the answer of a lookup that was its client's first call since the volume was
+-- mounted, and the name is placed on these bricks, the call took one step more than there are bricks at most
+abbrev pub FindsFirst : Disk → List Line → Type 0
+FindsFirst d lines =
+    (e : Entry) (f : Gfid) (r : PendingCall) → EndsAlone lines r (File f) → r.call ≡ Lookup e.0 e.1
+    → r.is_first ≡ true → Placed d e → r.steps ≤ length (history_of lines).weights + 1
+
+-- what the last of the lines tells of a call that was alone holds of these bricks
+pub record EndsWell (d : Disk) (lines : List Line) : Type 0 where
+  pub healed : HealsWhole d lines
+  pub found : FindsFirst d lines
 
 -- each lock is held by a client that has a pending call
 abbrev pub HoldersCall : Disk → History → Type 0

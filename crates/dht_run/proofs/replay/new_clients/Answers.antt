@@ -6,7 +6,7 @@ pub loop-number-preserved : goal.loop-number-preserved
 loop-number-preserved c = record {
   count = search rules;
   idle = subst (AreIdlePlaces 0) (sym c.in_ok-push.ensures.items)
-      (one_place_more 0 c.loop-number.number c.loop-number.clients.items _ c.loop-number.invariant.idle (omega (arith, c.loop-number.invariant.count, c.loop-number.clients.ok.0)) (c.new.ensures.number, c.new.ensures.idle, refl));
+      (one_place_more 0 c.loop-number.number c.loop-number.clients.items _ c.loop-number.invariant.idle (omega (arith, c.loop-number.invariant.count, c.loop-number.clients.ok.0)) (c.new.ensures.number, c.new.ensures.idle, refl, c.new.ensures.unread));
 }
 
 pub returns-clause-idle : goal.returns-clause-idle

@@ -2,15 +2,17 @@ use Rattle.std.proofs.Common.{◌∙◌, ap, sym, subst, arith}
 use Rattle.std.specs.Prelude.{Option, is_some, length}
 use Rattle.dht_types.specs.Calls.{directory_of}
 use Rattle.dht_client.specs.Client.{client_layout, first_claim, running_fault, running_learned, running_looks_up, running_stage}
-use Rattle.dht_client.specs.Program.{is_lookup, program_stage, program_fault, program_layout}
+use Rattle.dht_client.specs.Program.{is_lookup, on_way, program_stage, program_fault, program_layout}
 use Rattle.dht_client.specs.declared.calling.Running.{Running}
 use Rattle.dht_client.specs.declared.program.Program.{Program}
-use Rattle.dht_client.proofs.ClientSteps.{first_asked, first_claimed, first_copy, first_fault, first_knows, first_learned, first_steps, first_verb, steps_cost}
+use Rattle.dht_client.proofs.ClientSteps.{first_asked, first_claimed, first_copy, first_fault, first_knows, first_learned, first_steps, first_verb, first_way, steps_cost}
 use Rattle.dht_client.proofs.calling.ClientCaller.start.Goals as goal
 
 pub returns-in-Ok-clause-knows : goal.returns-in-Ok-clause-knows
 returns-in-Ok-clause-knows c = λ s b.
-    let k = subst (λ (p : Program). (program_stage p).knows s) (sym c.in-Ok.ensures.program) (first_knows c.args.self.now c.args.weights.now c.args.run c.args.call c.args.what.now s c.in-Ok.ensures.small c.requires.few (sym c.in_ok-subject.ensures.refusal) b) in
+    let known = first_knows c.args.self.now c.args.weights.now c.args.run c.args.call c.args.what.now s c.in-Ok.ensures.small c.requires.few (sym c.in_ok-subject.ensures.refusal) b in
+    let way = first_way c.args.self.now c.args.weights.now c.args.run c.args.call c.args.what.now s b in
+    let k = subst (λ (p : Program). (on_way p).knows s) (sym c.in-Ok.ensures.program) (known, way) in
     subst (λ (o : Option Running). (running_stage o).knows s) (sym c.replace.ensures.after) k
 
 pub returns-in-Ok-clause-variant : goal.returns-in-Ok-clause-variant

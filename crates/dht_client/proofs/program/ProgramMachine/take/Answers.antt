@@ -1,6 +1,6 @@
 use Rattle.std.proofs.Common.{refl, ap, subst, sym, ◌∙◌}
 use Rattle.dht_section.proofs.PartSteps.{goes_as, ends_as}
-use Rattle.dht_client.proofs.ProgramSteps.{at_create, at_heal, at_lookup, at_mkdir, at_rmdir, at_unlink, ends_without_heal, goes_without_heal, lookup_ends, lookup_goes}
+use Rattle.dht_client.proofs.ProgramSteps.{at_create, at_heal, at_lookup, at_mkdir, at_rmdir, at_unlink, create_is_none, ends_without_heal, goes_without_heal, heal_is_none, lookup_ends, lookup_finds_soon, lookup_goes, lookup_keeps_way, mkdir_is_none, other_finds_soon, other_keeps_way, rmdir_is_none, unlink_is_none}
 use Rattle.dht_fileops.specs.Create.{create_stage}
 use Rattle.dht_fileops.specs.Unlink.{unlink_stage}
 use Rattle.dht_heal.specs.HealCall.{call_stage}
@@ -65,3 +65,41 @@ returns-in-Go-take-5-clause-moves c = λ s t. goes_as (program_stage c.args.self
 
 pub returns-in-Done-take-5-clause-moves : goal.returns-in-Done-take-5-clause-moves
 returns-in-Done-take-5-clause-moves c = λ s t. ends_as (program_stage c.args.self) (call_stage c.in-Healing.call) (program_ended c.in-Done-take-5.end) c.args.reply c.args.at s t (at_heal c.args.self c.in-Healing.call c.in-Healing.is) (c.in-Done-take-5.ensures.moves s t)
+
+-- ---- the way of a first lookup
+
+pub returns-in-Go-clause-way : goal.returns-in-Go-clause-way
+returns-in-Go-clause-way c = λ s t. lookup_keeps_way c.args.self c.in-LookingUp.call c.in-Go.call c.args.reply c.args.at s t c.in-LookingUp.is c.in-Go.ensures.after
+
+pub returns-in-Done-clause-way : goal.returns-in-Done-clause-way
+returns-in-Done-clause-way c = λ s t. lookup_finds_soon c.args.self c.in-LookingUp.call c.in-Done.end c.as_ended.result c.args.reply c.args.at s t c.in-LookingUp.is c.as_ended.ensures (subst (λ (x : Turn Lookup Resolved). KeepsLocation c.in-LookingUp.call x) (sym c.in-Done.ensures.after) (keeps_location c.in-LookingUp.call c.args.reply c.args.at)) c.in-Done.ensures.after
+
+pub returns-in-Go-take-clause-way : goal.returns-in-Go-take-clause-way
+returns-in-Go-take-clause-way c = λ s t. other_keeps_way c.args.self (Creating c.in-Go-take.call) c.args.reply c.args.at s t (create_is_none c.args.self c.in-Creating.call c.in-Creating.is) (create_is_none (Creating c.in-Go-take.call) c.in-Go-take.call refl)
+
+pub returns-in-Done-take-clause-way : goal.returns-in-Done-take-clause-way
+returns-in-Done-take-clause-way c = λ s t. other_finds_soon c.args.self c.in-Done-take.end c.args.reply c.args.at s t (create_is_none c.args.self c.in-Creating.call c.in-Creating.is)
+
+pub returns-in-Go-take-2-clause-way : goal.returns-in-Go-take-2-clause-way
+returns-in-Go-take-2-clause-way c = λ s t. other_keeps_way c.args.self (Making c.in-Go-take-2.call) c.args.reply c.args.at s t (mkdir_is_none c.args.self c.in-Making.call c.in-Making.is) (mkdir_is_none (Making c.in-Go-take-2.call) c.in-Go-take-2.call refl)
+
+pub returns-in-Done-take-2-clause-way : goal.returns-in-Done-take-2-clause-way
+returns-in-Done-take-2-clause-way c = λ s t. other_finds_soon c.args.self c.in-Done-take-2.end c.args.reply c.args.at s t (mkdir_is_none c.args.self c.in-Making.call c.in-Making.is)
+
+pub returns-in-Go-take-3-clause-way : goal.returns-in-Go-take-3-clause-way
+returns-in-Go-take-3-clause-way c = λ s t. other_keeps_way c.args.self (Unlinking c.in-Go-take-3.call) c.args.reply c.args.at s t (unlink_is_none c.args.self c.in-Unlinking.call c.in-Unlinking.is) (unlink_is_none (Unlinking c.in-Go-take-3.call) c.in-Go-take-3.call refl)
+
+pub returns-in-Done-take-3-clause-way : goal.returns-in-Done-take-3-clause-way
+returns-in-Done-take-3-clause-way c = λ s t. other_finds_soon c.args.self c.in-Done-take-3.end c.args.reply c.args.at s t (unlink_is_none c.args.self c.in-Unlinking.call c.in-Unlinking.is)
+
+pub returns-in-Go-take-4-clause-way : goal.returns-in-Go-take-4-clause-way
+returns-in-Go-take-4-clause-way c = λ s t. other_keeps_way c.args.self (Removing c.in-Go-take-4.call) c.args.reply c.args.at s t (rmdir_is_none c.args.self c.in-Removing.call c.in-Removing.is) (rmdir_is_none (Removing c.in-Go-take-4.call) c.in-Go-take-4.call refl)
+
+pub returns-in-Done-take-4-clause-way : goal.returns-in-Done-take-4-clause-way
+returns-in-Done-take-4-clause-way c = λ s t. other_finds_soon c.args.self c.in-Done-take-4.end c.args.reply c.args.at s t (rmdir_is_none c.args.self c.in-Removing.call c.in-Removing.is)
+
+pub returns-in-Go-take-5-clause-way : goal.returns-in-Go-take-5-clause-way
+returns-in-Go-take-5-clause-way c = λ s t. other_keeps_way c.args.self (Healing c.in-Go-take-5.call) c.args.reply c.args.at s t (heal_is_none c.args.self c.in-Healing.call c.in-Healing.is) (heal_is_none (Healing c.in-Go-take-5.call) c.in-Go-take-5.call refl)
+
+pub returns-in-Done-take-5-clause-way : goal.returns-in-Done-take-5-clause-way
+returns-in-Done-take-5-clause-way c = λ s t. other_finds_soon c.args.self c.in-Done-take-5.end c.args.reply c.args.at s t (heal_is_none c.args.self c.in-Healing.call c.in-Healing.is)

@@ -15,7 +15,7 @@ use Rattle.dht_world.specs.Following.{refusal_point}
 use Rattle.dht_world.specs.Places.{summary_of}
 use Rattle.dht_world.specs.World.{At}
 use Rattle.dht_world.proofs.AtLaws.{down_after}
-use Rattle.dht_world.proofs.HealedLaws.{no_heal, no_heal_two}
+use Rattle.dht_world.proofs.EndLaws.{no_end, no_end_two}
 use Rattle.dht_world.proofs.PlaceLaws.{called_at, refused_at, refused_down, called_block, refused_block, call_idle, call_named, advances, adds_one}
 use Rattle.dht_world.proofs.events.World.call.Goals as goal
 
@@ -40,7 +40,7 @@ returns-in_default-clause-comes g c = λ n past at.
     adds_one g.B.Brick g.C.Caller w _ n (event.Call who c.args.what.now) past c.args.out.now.items c.push_line.new.out.items line c.push_line.ensures.items (record {
       led = called_at g.B.Brick g.C.Caller transition_laws g.met.C.Caller.stable w past who c.from.result c.args.what.now what c.index_mut-caller.result.now c.start-begun.new.self c.start-begun.result at c.from.ensures c.index_mut-caller.ensures.value accepted c.start-begun.ensures c.admit.new.answers.items c.in_ok-call.ensures.ok c.in_default.is;
       ready = subst (λ (down : ℕ → Bool). AreReady g.B.Brick.state w.weights w.run down w.bricks.items) (sym (down_after past line (history_of past).down refl)) at.ready;
-      healed = no_heal (disk_of g.B.Brick.state w.bricks.items) past line refl;
+      ends = no_end (disk_of g.B.Brick.state w.bricks.items) past line refl;
     })
     (called_block g.B.Brick g.C.Caller transition_laws g.met.C.Caller.stable w past who c.from.result c.args.what.now what c.index_mut-caller.result.now c.start-begun.new.self c.start-begun.result at c.from.ensures c.index_mut-caller.ensures.value accepted c.start-begun.ensures n c.in_ok-call.ensures.call c.in_default.is)
     accepted
@@ -64,7 +64,7 @@ returns-in-Err-clause-comes g c = λ n past at.
           (record {
             led = refused_at g.B.Brick g.C.Caller transition_laws g.met.C.Caller.stable w past who c.from.result c.args.what.now what c.index_mut-caller.result.now c.start-begun.new.self c.start-begun.result at c.from.ensures c.index_mut-caller.ensures.value accepted c.start-begun.ensures e c.admit.new.answers.items c.in_ok-call.ensures.ok c.in-Err.is;
             ready = subst (λ (down : ℕ → Bool). AreReady g.B.Brick.state w.weights w.run down w.bricks.items) (sym (refused_down g.B.Brick g.C.Caller transition_laws g.met.C.Caller.stable w past who c.from.result c.args.what.now what c.index_mut-caller.result.now c.start-begun.new.self c.start-begun.result at c.from.ensures c.index_mut-caller.ensures.value accepted c.start-begun.ensures e)) at.ready;
-            healed = no_heal_two (disk_of g.B.Brick.state w.bricks.items) past line answer refl;
+            ends = no_end_two (disk_of g.B.Brick.state w.bricks.items) past line answer refl;
           })
           (refused_block g.B.Brick g.C.Caller transition_laws g.met.C.Caller.stable w past who c.from.result c.args.what.now what c.index_mut-caller.result.now c.start-begun.new.self c.start-begun.result at c.from.ensures c.index_mut-caller.ensures.value accepted c.start-begun.ensures n e c.in_ok-call.ensures.call c.in-Err.is)
           accepted,
@@ -75,5 +75,5 @@ returns-in_err-call-clause-err g c = on_err c.from_residual.result (λ past at.
     let w = c.args.self.now in record {
       led = subst (λ (xs : List (Option Gfid)). At g.C.Caller (disk_of g.B.Brick.state w.bricks.items) (journals_of g.B.Brick.state w.bricks.items) w.clients.items w.weights (record (summary_of w) { answers = xs }) past) (sym c.in_err-call.ensures.err) at.led;
       ready = at.ready;
-      healed = at.healed;
+      ends = at.ends;
     })

@@ -14,7 +14,7 @@ use Rattle.dht_world.specs.Places.{IsAt, summary_of}
 use Rattle.dht_world.specs.World.{At}
 use Rattle.dht_world.proofs.BlockLaws.{block_alone}
 use Rattle.dht_world.proofs.BrickLaws.{none_became}
-use Rattle.dht_world.proofs.HealedLaws.{no_heal}
+use Rattle.dht_world.proofs.EndLaws.{no_end}
 use Rattle.dht_world.proofs.PlaceLaws.{adds_one}
 use Rattle.dht_world.proofs.RemountLaws.{more, remounting, remounted_at, remounted_ready}
 use Rattle.dht_world.proofs.events.World.mount.Goals as goal
@@ -70,7 +70,7 @@ returns-clause-comes g c = λ n past at.
           (remounted_at g.B.Brick g.C.Caller w past ws at accepted ys fresh mounted new c.begin_anew.new.clients.items c.requires.volume many c.begin_anew.ensures.new);
       ready = subst (λ (bricks : List g.row.B.Denot). AreReady g.B.Brick.state ws (w.run + 1) (history_of (past ++ Remounted ws ∷ [])).down bricks) (sym c.in_ok-append.ensures.items)
           (remounted_ready g.B.Brick g.C.Caller w past ws at accepted ys fresh mounted new);
-      healed = no_heal _ past (Remounted ws) refl;
+      ends = no_end _ past (Remounted ws) refl;
     }))
     (block_alone (history_of past) n (event.Remount ws) (Remounted ws) accepted refl refl)
     accepted

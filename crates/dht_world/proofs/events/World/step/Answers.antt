@@ -13,10 +13,10 @@ use Rattle.dht_world.specs.Bricks.{disk_of, journals_of, AreReady}
 use Rattle.dht_world.specs.Clients.{client}
 use Rattle.dht_world.specs.Lines.{request_lines}
 use Rattle.dht_world.specs.Places.{summary_of}
-use Rattle.dht_world.specs.World.{At, HealsWhole}
-use Rattle.dht_world.proofs.HealedLaws.{no_heal_request}
+use Rattle.dht_world.specs.World.{At, EndsWell}
+use Rattle.dht_world.proofs.EndLaws.{no_end_request}
 use Rattle.dht_world.proofs.PlaceLaws.{place_is, place_there, advances}
-use Rattle.dht_world.proofs.ReplyLaws.{step_busy, asks_there, asks_sent, answer_there, step_down, answered_down, step_block, answered_block, step_on, step_answered, step_healed}
+use Rattle.dht_world.proofs.ReplyLaws.{step_busy, asks_there, asks_sent, answer_there, step_down, answered_down, step_block, answered_block, step_on, step_answered, step_ends}
 use Rattle.dht_world.proofs.events.World.step.Goals as goal
 
 pub returns-in-Some-clause-comes : goal.returns-in-Some-clause-comes
@@ -47,7 +47,7 @@ returns-in-Some-clause-comes g c = λ n past at.
                 (step_answered g.B.Brick g.C.Caller transition_laws g.met.C.Caller.stable g.met.C.Caller.permitted g.met.C.Caller.goes_on w past who c.index.result.now k a at accepted here v r bricks there.0 small served c.from-2.result c.push_request.result c.index_mut-place.result.now c.take.new.self y c.from-2.ensures same c.push_request.ensures.count c.in-Some.ensures);
             ready = subst (λ (down : ℕ → Bool). AreReady g.B.Brick.state w.weights w.run down bricks) (sym (answered_down g.B.Brick g.C.Caller transition_laws g.met.C.Caller.stable g.met.C.Caller.permitted g.met.C.Caller.goes_on w past who c.index.result.now k a at accepted here v r bricks there.0 small served y))
                 (c.in_ok-reply.ensures.ready w.weights w.run (history_of past).down at.ready);
-            healed = step_healed g.B.Brick g.C.Caller transition_laws g.met.C.Caller.stable g.met.C.Caller.permitted g.met.C.Caller.goes_on w past who c.index.result.now k a at accepted here v r bricks there.0 small served c.push_request.result c.index_mut-place.result.now c.take.new.self y same c.push_request.ensures.count c.in-Some.ensures;
+            ends = step_ends g.B.Brick g.C.Caller transition_laws g.met.C.Caller.stable g.met.C.Caller.permitted g.met.C.Caller.goes_on w past who c.index.result.now k a at accepted here v r bricks there.0 small served c.push_request.result c.index_mut-place.result.now c.take.new.self y same c.push_request.ensures.count c.in-Some.ensures;
           })
           (answered_block g.B.Brick g.C.Caller transition_laws g.met.C.Caller.stable g.met.C.Caller.permitted g.met.C.Caller.goes_on w past who c.index.result.now k a at accepted here v r bricks there.0 small served n y)
           accepted,
@@ -77,7 +77,7 @@ returns-in_default-clause-comes g c = λ n past at.
             led = step_on g.B.Brick g.C.Caller transition_laws g.met.C.Caller.stable g.met.C.Caller.permitted g.met.C.Caller.goes_on w past who c.index.result.now k a at accepted here v r bricks there.0 small served c.from-2.result c.push_request.result c.index_mut-place.result.now c.take.new.self c.from-2.ensures same c.push_request.ensures.count c.in_default.ensures;
             ready = subst (λ (down : ℕ → Bool). AreReady g.B.Brick.state w.weights w.run down bricks) (sym (step_down g.B.Brick g.C.Caller transition_laws g.met.C.Caller.stable g.met.C.Caller.permitted g.met.C.Caller.goes_on w past who c.index.result.now k a at accepted here v r bricks there.0 small served))
                 (c.in_ok-reply.ensures.ready w.weights w.run (history_of past).down at.ready);
-            healed = no_heal_request (disk_of g.B.Brick.state bricks) past k (client who) a r;
+            ends = no_end_request (disk_of g.B.Brick.state bricks) past k (client who) a r;
           })
           (step_block g.B.Brick g.C.Caller transition_laws g.met.C.Caller.stable g.met.C.Caller.permitted g.met.C.Caller.goes_on w past who c.index.result.now k a at accepted here v r bricks there.0 small served n)
           accepted,
@@ -91,7 +91,7 @@ returns-in_err-reply-clause-err g c = on_err c.from_residual.result (λ past at.
       led = subst (λ (js : ℕ → List JournalEntry). At g.C.Caller d js w.clients.items w.weights (summary_of w) past) (sym failed.journals)
           (subst (λ (e : Disk). At g.C.Caller e (journals_of g.B.Brick.state w.bricks.items) w.clients.items w.weights (summary_of w) past) (sym failed.disk) at.led);
       ready = failed.ready w.weights w.run (history_of past).down at.ready;
-      healed = subst (λ (e : Disk). HealsWhole e past) (sym failed.disk) at.healed;
+      ends = subst (λ (e : Disk). EndsWell e past) (sym failed.disk) at.ends;
     })
 
 pub serve_at-requires-clause-ready : goal.serve_at-requires-clause-ready
