@@ -12,7 +12,8 @@ use dht_types::names::Name;
 use std::alloc::{AllocError, Global};
 use std::test::Fail;
 
-/// Each entry as a step line at brick 0; and under it the gfid, the name, the offset and the length.
+/// Each entry as a step line at brick 0; and under it the gfid, the name, the offset and the
+/// length.
 const JOURNAL: &str = "\
 step 7 3 0 lock wait
   00000000-0000-0000-0000-000000000001 a 0 0

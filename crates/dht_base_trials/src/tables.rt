@@ -1,5 +1,5 @@
-//! The reader of tables. A line is `ask = answer`, where an ask is a verb and its words. A line that
-//! is empty or begins with `#` says nothing.
+//! The reader of tables. A line is `ask = answer`, where an ask is a verb and its words. A line
+//! that is empty or begins with `#` says nothing.
 
 use crate::events::{long_told, read_told};
 use crate::layouts::{

@@ -25,7 +25,9 @@ pub record Drops (s : Store) (f : Gfid) (o : Option Record) (new : Store) : Type
 abbrev dropped : Store → Gfid → Option Record → Bool → Outcome Store
 dropped s f o v = guarded (file_cell_of (row_of (Drop f)) (state_of o)) o (on_record o (λ x. if v then Do given.Nothing (without_file s f) else Refuse (why.Links (links s.slots f))))
 
-dropped_by : (s : Store) (f : Gfid) (gives : Given) (new : Store) (o : Option Record) (v : Bool) → dropped s f o v ≡ Do gives new → Drops s f o new
+dropped_by :
+    (s : Store) (f : Gfid) (gives : Given) (new : Store) (o : Option Record) (v : Bool)
+    → dropped s f o v ≡ Do gives new → Drops s f o new
 dropped_by s f gives new (Some (Live hop bytes)) true done = record { live = refl; store = ap (λ (y : Outcome Store). left_by y s) (sym done) }
 dropped_by s f gives new (Some (Live hop bytes)) false done = absurd (let z : Refuse (why.Links (links s.slots f)) ≡ Do gives new = done in cc)
 dropped_by s f gives new (Some (Moving hop dest bytes)) v done = absurd (let z : Refuse (why.Moving dest) ≡ Do gives new = done in cc)
@@ -33,5 +35,7 @@ dropped_by s f gives new (Some (Copied c)) v done = absurd (let z : Refuse (why.
 dropped_by s f gives new (Some (Forward hop brick)) v done = absurd (let z : Refuse (why.Forward brick hop) ≡ Do gives new = done in cc)
 dropped_by s f gives new None v done = absurd (let z : Refuse why.Absent ≡ Do gives new = done in cc)
 
-pub drops : (bricks : List (List ℕ)) (s : Store) (f : Gfid) (gives : Given) (new : Store) → file_row bricks (Drop f) s ≡ Do gives new → Drops s f (file s f) new
+pub drops :
+    (bricks : List (List ℕ)) (s : Store) (f : Gfid) (gives : Given) (new : Store)
+    → file_row bricks (Drop f) s ≡ Do gives new → Drops s f (file s f) new
 drops bricks s f gives new done = dropped_by s f gives new (file s f) (links s.slots f == 0) done

@@ -42,23 +42,35 @@ tied Less e = cc
 tied Equal e = refl
 tied Greater e = cc
 
-apart : {K : Type 0} {R : K → K → Ordering} → IsAntisymmetric R → (k q : K) → ◌≢◌ {A = Option K} (Some k) (Some q) → eq_by_cmp R q k ≡ false
+apart :
+    {K : Type 0} {R : K → K → Ordering} → IsAntisymmetric R → (k q : K)
+    → ◌≢◌ {A = Option K} (Some k) (Some q) → eq_by_cmp R q k ≡ false
 apart {R = R} exact k q differ = false_from_ne_true (eq_by_cmp R q k) (λ t. differ (ap Some (sym (exact q k (tied (R q k) t)))))
 
-pub insert_dir : (dirs : Dirs) (g : Gfid) (r : DirRecord) (h : Gfid) → Some g ≢ Some h → get (insert dirs g r) h ≡ get dirs h
+pub insert_dir :
+    (dirs : Dirs) (g : Gfid) (r : DirRecord) (h : Gfid) → Some g ≢ Some h
+    → get (insert dirs g r) h ≡ get dirs h
 insert_dir dirs g r h differ = get-insert_other gfid_total dirs g r h (apart gfid_exact g h differ)
 
-insert_file : (files : Files) (f : Gfid) (r : Record) (h : Gfid) → Some f ≢ Some h → get (insert files f r) h ≡ get files h
+insert_file :
+    (files : Files) (f : Gfid) (r : Record) (h : Gfid) → Some f ≢ Some h
+    → get (insert files f r) h ≡ get files h
 insert_file files f r h differ = get-insert_other gfid_total files f r h (apart gfid_exact f h differ)
 
-put_by : (b : Bool) (slots : Slots) (e : Entry) (p : Slot) (k : Entry) → eq_by_cmp entry_cmp k e ≡ false → get (cond b (remove slots e) (insert slots e p)) k ≡ get slots k
+put_by :
+    (b : Bool) (slots : Slots) (e : Entry) (p : Slot) (k : Entry) → eq_by_cmp entry_cmp k e ≡ false
+    → get (cond b (remove slots e) (insert slots e p)) k ≡ get slots k
 put_by true slots e p k differ = get-remove_other entry_total slots e k differ
 put_by false slots e p k differ = get-insert_other entry_total slots e p k differ
 
-put_elsewhere : (slots : Slots) (e : Entry) (p : Slot) (k : Entry) → Some e ≢ Some k → get (put_slot slots e p) k ≡ get slots k
+put_elsewhere :
+    (slots : Slots) (e : Entry) (p : Slot) (k : Entry) → Some e ≢ Some k
+    → get (put_slot slots e p) k ≡ get slots k
 put_elsewhere slots e p k differ = put_by (is_bare p) slots e p k (apart entry_exact e k differ)
 
-outside : (slots : Slots) (g : Gfid) (k : Entry) → Some g ≢ Some k.0 → get (retain_keys slots (λ e. not (same_gfid g e.0))) k ≡ get slots k
+outside :
+    (slots : Slots) (g : Gfid) (k : Entry) → Some g ≢ Some k.0
+    → get (retain_keys slots (λ e. not (same_gfid g e.0))) k ≡ get slots k
 outside slots g k differ =
     get-retain_keys slots (λ e. not (same_gfid g e.0)) k (λ x t. ap (λ (e : Entry). not (same_gfid g e.0)) (sym (entry_exact k x t)))
     ∙ ap (λ b. cond (not b) (get slots k) None) (false_from_ne_true (same_gfid g k.0) (λ t. differ (ap Some ((exact_gfid g k.0).0 t))))
@@ -68,13 +80,22 @@ outside slots g k differ =
 same : (p : Places) (s : Store) → ChangesOnly p s s
 same p s = record { slots = λ e _ _. refl; dirs = λ g _. refl; files = λ f _. refl }
 
-slot_changes : (s : Store) (e : Entry) (p : Slot) (dir file dropped : Option Gfid) → ChangesOnly (record { slot = Some e; dir = dir; file = file; dropped = dropped }) s (with_slot s e p)
+slot_changes :
+    (s : Store) (e : Entry) (p : Slot) (dir file dropped : Option Gfid)
+    → ChangesOnly (record { slot = Some e; dir = dir; file = file; dropped = dropped }) s
+    (with_slot s e p)
 slot_changes s e p dir file dropped = record { slots = λ k differ _. put_elsewhere s.slots e p k differ; dirs = λ g _. refl; files = λ f _. refl }
 
-file_changes : (s : Store) (f : Gfid) (r : Record) (slot : Option Entry) → ChangesOnly (record nowhere { slot = slot; file = Some f }) s (record s { files = insert s.files f r })
+file_changes :
+    (s : Store) (f : Gfid) (r : Record) (slot : Option Entry)
+    → ChangesOnly (record nowhere { slot = slot; file = Some f }) s
+    (record s { files = insert s.files f r })
 file_changes s f r slot = record { slots = λ e _ _. refl; dirs = λ g _. refl; files = insert_file s.files f r }
 
-both_change : (s : Store) (e : Entry) (p : Slot) (f : Gfid) (r : Record) → ChangesOnly (record nowhere { slot = Some e; file = Some f }) s (record s { slots = put_slot s.slots e p; files = insert s.files f r })
+both_change :
+    (s : Store) (e : Entry) (p : Slot) (f : Gfid) (r : Record)
+    → ChangesOnly (record nowhere { slot = Some e; file = Some f }) s
+    (record s { slots = put_slot s.slots e p; files = insert s.files f r })
 both_change s e p f r = record { slots = λ k differ _. put_elsewhere s.slots e p k differ; dirs = λ g _. refl; files = insert_file s.files f r }
 
 -- the slot is changed, or it is not
@@ -85,15 +106,21 @@ may_change false s e p f r = file_changes s f r (Some e)
 
 -- ---- requests about names
 
-local_in_dir : (p : Places) (s : Store) (d : Option DirRecord) (outcome : DirRecord → Outcome Store) → ((r : DirRecord) → IsLocal p s (outcome r)) → IsLocal p s (in_dir d outcome)
+local_in_dir :
+    (p : Places) (s : Store) (d : Option DirRecord) (outcome : DirRecord → Outcome Store)
+    → ((r : DirRecord) → IsLocal p s (outcome r)) → IsLocal p s (in_dir d outcome)
 local_in_dir p s None outcome h = tt
 local_in_dir p s (Some r) outcome h = h r
 
-local_slot : (p : Places) (q : NameRequest) (s : Store) (e : Entry) (o : Option Slot) → ((x : Slot) → ChangesOnly p s (beside q (with_slot s e x))) → IsLocal p s (on_slot q s e o)
+local_slot :
+    (p : Places) (q : NameRequest) (s : Store) (e : Entry) (o : Option Slot)
+    → ((x : Slot) → ChangesOnly p s (beside q (with_slot s e x))) → IsLocal p s (on_slot q s e o)
 local_slot p q s e None h = tt
 local_slot p q s e (Some x) h = h x
 
-local_if_empty : (p : Places) (s : Store) (b : Bool) (outcome : Outcome Store) → IsLocal p s outcome → IsLocal p s (if_empty b outcome)
+local_if_empty :
+    (p : Places) (s : Store) (b : Bool) (outcome : Outcome Store) → IsLocal p s outcome
+    → IsLocal p s (if_empty b outcome)
 local_if_empty p s true (Do given new) h = tt
 local_if_empty p s true (Refuse w) h = tt
 local_if_empty p s true (Await holder) h = tt
@@ -143,11 +170,15 @@ names_are_local bricks (Orphans after) s = same nowhere s
 
 -- ---- requests about files
 
-local_if : (p : Places) (s : Store) (b : Bool) (x y : Outcome Store) → IsLocal p s x → IsLocal p s y → IsLocal p s (cond b x y)
+local_if :
+    (p : Places) (s : Store) (b : Bool) (x y : Outcome Store) → IsLocal p s x → IsLocal p s y
+    → IsLocal p s (cond b x y)
 local_if p s true x y h k = h
 local_if p s false x y h k = k
 
-local_made : (s : Store) (f : Gfid) (e : Entry) (source : BrickNo) (hop : ℕ) (r : Option Record) → IsLocal (record nowhere { slot = Some e; file = Some f }) s (copy_made s f e source hop r)
+local_made :
+    (s : Store) (f : Gfid) (e : Entry) (source : BrickNo) (hop : ℕ) (r : Option Record)
+    → IsLocal (record nowhere { slot = Some e; file = Some f }) s (copy_made s f e source hop r)
 local_made s f e source hop None = both_change s e (with_standby (slot s e) (standby.Copy f)) f (new_copy e source hop)
 local_made s f e source hop (Some (Live h b)) = both_change s e (with_standby (slot s e) (standby.Copy f)) f (new_copy e source hop)
 local_made s f e source hop (Some (Moving h d b)) = both_change s e (with_standby (slot s e) (standby.Copy f)) f (new_copy e source hop)

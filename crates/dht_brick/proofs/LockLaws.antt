@@ -1,4 +1,5 @@
--- Locks: which keys are one, who is the lowest that has to be waited for, and what a request leaves of the locks of others.
+-- Locks: which keys are one, who is the lowest that has to be
+-- waited for, and what a request leaves of the locks of others.
 use Rattle.std.proofs.Common.{◌≡◌, ◌≢◌, ◌<◌, ℕ, zero, suc, Bool, false, cond, refl, sym, ap, ◌∙◌, inl, inr, arith}
 use Rattle.std.specs.Prelude.{Option, Some, None, nat_eq}
 use Rattle.std.proofs.lemmas.Bool.{cases_eq}
@@ -61,16 +62,25 @@ held_locks_are_awaited client key mode locks holder below is =
 
 -- ---- what a request leaves of the locks of other clients
 
-held_other : (locks : Locks) (k : Key) (client : ℕ) (v : Option Mode) (key : Key) (other : ℕ) → other ≢ client → held locks k client v key other ≡ locks key other
+held_other :
+    (locks : Locks) (k : Key) (client : ℕ) (v : Option Mode) (key : Key) (other : ℕ)
+    → other ≢ client → held locks k client v key other ≡ locks key other
 held_other locks k client v key other differ =
     put_keeps (λ (h : ℕ → Option Mode). h other) same_key exact_key locks k (put nat_eq (locks k) client v) (put_other nat_eq exact_nat (locks k) client v other differ) key
 
-asked_other : (awaited : Option ℕ) (c : Contents) (new : Locks) (key : Key) (other : ℕ) → new key other ≡ c.locks key other → (left_by (within (with_locks c) (unless_awaited awaited (Do given.Nothing new))) c).locks key other ≡ c.locks key other
+asked_other :
+    (awaited : Option ℕ) (c : Contents) (new : Locks) (key : Key) (other : ℕ)
+    → new key other ≡ c.locks key other
+    → (left_by (within (with_locks c) (unless_awaited awaited (Do given.Nothing new))) c).locks key
+    other
+    ≡ c.locks key other
 asked_other None c new key other e = e
 asked_other (Some holder) c new key other e = refl
 
 -- what is done with another part leaves the locks
-beside : {A : Type 0} (whole : A → Contents) (outcome : Outcome A) (c : Contents) → ((a : A) → (whole a).locks ≡ c.locks) → (left_by (within whole outcome) c).locks ≡ c.locks
+beside :
+    {A : Type 0} (whole : A → Contents) (outcome : Outcome A) (c : Contents)
+    → ((a : A) → (whole a).locks ≡ c.locks) → (left_by (within whole outcome) c).locks ≡ c.locks
 beside whole (Do given new) c same = same new
 beside whole (Refuse why) c same = refl
 beside whole (Await holder) c same = refl

@@ -27,7 +27,8 @@ tied Equal e = refl
 tied Greater e = cc
 
 -- to put what is there already changes nothing
-insert_same : {X : Type 0} (m : FinMap gfid_cmp X) (k : Gfid) (v : X) → get m k ≡ Some v → insert m k v ≡ m
+insert_same :
+    {X : Type 0} (m : FinMap gfid_cmp X) (k : Gfid) (v : X) → get m k ≡ Some v → insert m k v ≡ m
 insert_same m k v there =
     same_map gfid_total gfid_exact (insert m k v) m (λ q. get-insert gfid_total m k v q
     ∙ elim (eq_by_cmp gfid_cmp q k) as (λ b. eq_by_cmp gfid_cmp q k ≡ b → cond b (Some v) (get m q) ≡ get m q) [
@@ -44,7 +45,9 @@ remove_none m k none =
       | false ↦ λ t. refl
     ] refl)
 
-file_restored_by : (files : Files) (f : Gfid) (o : Option Record) → get files f ≡ o → file_restored f (option_map (λ r. record { gfid = f; file = r }) o) files ≡ files
+file_restored_by :
+    (files : Files) (f : Gfid) (o : Option Record) → get files f ≡ o
+    → file_restored f (option_map (λ r. record { gfid = f; file = r }) o) files ≡ files
 file_restored_by files f None e = remove_none files f e
 file_restored_by files f (Some r) e = insert_same files f r e
 
@@ -129,7 +132,9 @@ module _ (g : Gfid) where
       ∙ ap (λ o. cond (same_gfid g q.0) (first_of (get slots q) o) o) (get-outside slots q)
       ∙ found (same_gfid g q.0) (get slots q))
 
-dir_restored_by : (t : Tables) (g : Gfid) (r : DirRecord) (o : Option DirRecord) → get t.dirs g ≡ Some r → o ≡ Some r
+dir_restored_by :
+    (t : Tables) (g : Gfid) (r : DirRecord) (o : Option DirRecord) → get t.dirs g ≡ Some r
+    → o ≡ Some r
     → dir_restored g (option_map (λ x. record { gfid = g; dir = x; slots = slots_saved t.slots g }) o) t ≡ t
 dir_restored_by t g r None there e = cc
 dir_restored_by t g r (Some x) there e =
@@ -145,7 +150,8 @@ no_length : {A : Type 0} (es : List A) → length es ≡ 0 → es ≡ []
 no_length [] e = refl
 no_length (x ∷ es) e = absurd (omega arith)
 
-entries-empty : {K : Type 0} (R : K → K → Ordering) (X : Type 0) → entries (empty {X = X} {R = R}) ≡ []
+entries-empty :
+    {K : Type 0} (R : K → K → Ordering) (X : Type 0) → entries (empty {X = X} {R = R}) ≡ []
 entries-empty R X = no_length (entries (empty {X = X} {R = R})) (sym (len-entries (empty {X = X} {R = R})) ∙ len-empty R X)
 
 pub a_new_brick_shows_the_root : NewbornShowsTheRoot

@@ -26,27 +26,37 @@ use Rattle.dht_brick.proofs.MapLemmas.{get-insert_here, get-remove_here}
 use Rattle.dht_brick.proofs.TableLemmas.{gfid_total}
 
 -- a record that is put is in its state
-saved_leaves : (files : Files) (f : Gfid) (r : Record) → state_of (get (insert files f r) f) ≡ state_of (Some r)
+saved_leaves :
+    (files : Files) (f : Gfid) (r : Record)
+    → state_of (get (insert files f r) f) ≡ state_of (Some r)
 saved_leaves files f r = ap state_of (get-insert_here gfid_total files f r)
 
 -- a further condition refuses
-if_leaves : (st : State) (f : Gfid) (b : Bool) (x y : Outcome Store) → Leaves st f x → Leaves st f y → Leaves st f (cond b x y)
+if_leaves :
+    (st : State) (f : Gfid) (b : Bool) (x y : Outcome Store) → Leaves st f x → Leaves st f y
+    → Leaves st f (cond b x y)
 if_leaves st f true x y p q = p
 if_leaves st f false x y p q = q
 
-made_leaves : (s : Store) (f : Gfid) (e : Entry) (source : BrickNo) (hop : ℕ) (r : Option Record) → Leaves state.Standby f (copy_made s f e source hop r)
+made_leaves :
+    (s : Store) (f : Gfid) (e : Entry) (source : BrickNo) (hop : ℕ) (r : Option Record)
+    → Leaves state.Standby f (copy_made s f e source hop r)
 made_leaves s f e source hop None = saved_leaves s.files f _
 made_leaves s f e source hop (Some (Live h b)) = saved_leaves s.files f _
 made_leaves s f e source hop (Some (Moving h d b)) = saved_leaves s.files f _
 made_leaves s f e source hop (Some (Copied c)) = if_leaves state.Standby f (is_same_copy c e source hop) _ _ (saved_leaves s.files f _) tt
 made_leaves s f e source hop (Some (Forward h b)) = saved_leaves s.files f _
 
-standby_leaves : (s : Store) (f : Gfid) (e : Entry) (source : BrickNo) (hop : ℕ) (r : Option Record) (d : Option DirRecord)
+standby_leaves :
+    (s : Store) (f : Gfid) (e : Entry) (source : BrickNo) (hop : ℕ) (r : Option Record)
+    (d : Option DirRecord)
     → Leaves state.Standby f (in_dir d (λ x. cond (takes_copy f (slot s e)) (copy_made s f e source hop r) (Refuse (why.Slot (slot_shown (slot s e))))))
 standby_leaves s f e source hop r None = tt
 standby_leaves s f e source hop r (Some x) = if_leaves state.Standby f (takes_copy f (slot s e)) _ _ (made_leaves s f e source hop r) tt
 
-row_leaves : (bricks : List (List ℕ)) (q : FileRequest) (s : Store) (r : Option Record) → file s (file_of q) ≡ r
+row_leaves :
+    (bricks : List (List ℕ)) (q : FileRequest) (s : Store) (r : Option Record)
+    → file s (file_of q) ≡ r
     → Leaves (left_in (file_cell_of (row_of q) (state_of r)) (state_of r)) (file_of q) (guarded (file_cell_of (row_of q) (state_of r)) r (record_row bricks q s r))
 row_leaves bricks (Read f offset size) s (Some (Live h b)) e = ap state_of e
 row_leaves bricks (Read f offset size) s (Some (Moving h d b)) e = ap state_of e

@@ -43,20 +43,26 @@ both : (a b : Bool) → T a → T b → T (a && b)
 both true b p q = q
 both false b p q = p
 
-option_map-cond : {X Y : Type 0} (f : X → Y) (b : Bool) (v w : Option X) → option_map f (cond b v w) ≡ cond b (option_map f v) (option_map f w)
+option_map-cond :
+    {X Y : Type 0} (f : X → Y) (b : Bool) (v w : Option X)
+    → option_map f (cond b v w) ≡ cond b (option_map f v) (option_map f w)
 option_map-cond f true v w = refl
 option_map-cond f false v w = refl
 
-pub is_some-option_map : {X Y : Type 0} (f : X → Y) (o : Option X) → is_some (option_map f o) ≡ is_some o
+pub is_some-option_map :
+    {X Y : Type 0} (f : X → Y) (o : Option X) → is_some (option_map f o) ≡ is_some o
 is_some-option_map f None = refl
 is_some-option_map f (Some x) = refl
 
-pub second_none : {X Y : Type 0} (v : Option X) (w : Option Y) → (is_none v && is_none w) ≡ true → w ≡ None
+pub second_none :
+    {X Y : Type 0} (v : Option X) (w : Option Y) → (is_none v && is_none w) ≡ true → w ≡ None
 second_none None None h = refl
 second_none None (Some y) h = cc
 second_none (Some x) w h = cc
 
-pub count_by-map : {X Y : Type 0} (p : Y → Bool) (f : X → Y) (xs : List X) → count_by p (map f xs) ≡ count_by (λ x. p (f x)) xs
+pub count_by-map :
+    {X Y : Type 0} (p : Y → Bool) (f : X → Y) (xs : List X)
+    → count_by p (map f xs) ≡ count_by (λ x. p (f x)) xs
 count_by-map p f [] = refl
 count_by-map p f (x ∷ xs) = sum_by-cons (λ y. cond (p y) 1 0) (f x) (map f xs) ∙ ap (λ n. cond (p (f x)) 1 0 + n) (count_by-map p f xs) ∙ sym (sum_by-cons (λ z. cond (p (f z)) 1 0) x xs)
 
@@ -140,7 +146,9 @@ tied Equal e = refl
 tied Greater e = cc
 
 -- to take out what was just put where nothing was leaves the map as it was
-pub remove-insert : {K X : Type 0} {R : K → K → Ordering} → IsTotalOrder R → IsAntisymmetric R → (m : FinMap R X) (k : K) (v : X) → get m k ≡ None → remove (insert m k v) k ≡ m
+pub remove-insert :
+    {K X : Type 0} {R : K → K → Ordering} → IsTotalOrder R → IsAntisymmetric R
+    → (m : FinMap R X) (k : K) (v : X) → get m k ≡ None → remove (insert m k v) k ≡ m
 remove-insert {R = R} o exact m k v none =
     same_map o exact (remove (insert m k v) k) m (λ q. get-remove o (insert m k v) k q ∙ ap (cond (eq_by_cmp R q k) None) (get-insert o m k v q)
     ∙ elim (eq_by_cmp R q k) as (λ b. eq_by_cmp R q k ≡ b → cond b None (cond b (Some v) (get m q)) ≡ get m q) [
@@ -154,11 +162,14 @@ and_true : (b : Bool) → (b && true) ≡ b
 and_true true = refl
 and_true false = refl
 
-pub above_is : (after : Option Gfid) (q : Gfid) → range_contains gfid_cmp (gfids_from after) Unbounded q ≡ is_gfid_above after q
+pub above_is :
+    (after : Option Gfid) (q : Gfid)
+    → range_contains gfid_cmp (gfids_from after) Unbounded q ≡ is_gfid_above after q
 above_is None q = refl
 above_is (Some g) q = and_true (is_lt (gfid_cmp g q))
 
-pub starts_forward : (after : Option Gfid) (P Q : Gfid → Gfid → Type 0) → IsForward P Q (gfids_from after) Unbounded
+pub starts_forward :
+    (after : Option Gfid) (P Q : Gfid → Gfid → Type 0) → IsForward P Q (gfids_from after) Unbounded
 starts_forward None P Q = tt
 starts_forward (Some g) P Q = tt
 
@@ -166,14 +177,21 @@ abbrev pub first_key : {K X : Type 0} → List (K × X) → Option K
 first_key [] = None
 first_key (e ∷ es) = Some e.0
 
-first_cond : {K X : Type 0} (b : Bool) (e : K × X) (es : List (K × X)) → first_key (cond b (e ∷ es) es) ≡ cond b (Some e.0) (first_key es)
+first_cond :
+    {K X : Type 0} (b : Bool) (e : K × X) (es : List (K × X))
+    → first_key (cond b (e ∷ es) es) ≡ cond b (Some e.0) (first_key es)
 first_cond true e es = refl
 first_cond false e es = refl
 
-find-filter : {K X : Type 0} (p : K → Bool) (es : List (K × X)) → find_item p (map (λ e. e.0) es) ≡ first_key (filter (λ e. p e.0) es)
+find-filter :
+    {K X : Type 0} (p : K → Bool) (es : List (K × X))
+    → find_item p (map (λ e. e.0) es) ≡ first_key (filter (λ e. p e.0) es)
 find-filter p [] = refl
 find-filter p (e ∷ es) = ap (cond (p e.0) (Some e.0)) (find-filter p es) ∙ sym (first_cond (p e.0) e (filter (λ x. p x.0) es))
 
 -- the least key above one is the first of the range
-pub first_above : {X : Type 0} (after : Option Gfid) (es : List (Gfid × X)) → find_item (is_gfid_above after) (map (λ e. e.0) es) ≡ first_key (entries_between gfid_cmp (gfids_from after) Unbounded es)
+pub first_above :
+    {X : Type 0} (after : Option Gfid) (es : List (Gfid × X))
+    → find_item (is_gfid_above after) (map (λ e. e.0) es)
+    ≡ first_key (entries_between gfid_cmp (gfids_from after) Unbounded es)
 first_above {X} after es = find-filter (is_gfid_above after) es ∙ (λ i. first_key (filter (λ (e : Gfid × X). sym (above_is after e.0) i) es))

@@ -116,30 +116,42 @@ OutcomeIsWithin count (Refuse reason) = WhyIsWithin count reason
 OutcomeIsWithin count (Await holder) = Unit {0}
 
 -- what is shown of a slot and of a record
-shown_main : (count : ℕ) (m : Option Main) → IfSome m (MainIsWithin count) → IfSome (option_map main_shown m) (ShownIsWithin count)
+shown_main :
+    (count : ℕ) (m : Option Main) → IfSome m (MainIsWithin count)
+    → IfSome (option_map main_shown m) (ShownIsWithin count)
 shown_main count (Some (Dir g)) h = h
 shown_main count (Some (File f over)) h = h
 shown_main count m h = tt
 
-dir_shown : (count : ℕ) (m : Option Main) → IfSome m (MainIsWithin count) → IfSome (dir_at m) (IsHomed count)
+dir_shown :
+    (count : ℕ) (m : Option Main) → IfSome m (MainIsWithin count)
+    → IfSome (dir_at m) (IsHomed count)
 dir_shown count (Some (Dir g)) h = h
 dir_shown count m h = tt
 
-dest_shown : (count : ℕ) (r : Option Record) → IfSome r (RecordIsWithin count) → IfSome (dest_of r) (IsBrick count)
+dest_shown :
+    (count : ℕ) (r : Option Record) → IfSome r (RecordIsWithin count)
+    → IfSome (dest_of r) (IsBrick count)
 dest_shown count (Some (Moving hop dest bytes)) h = h
 dest_shown count r h = tt
 
-state_shown : (count : ℕ) (r : Option Record) → IfSome r (RecordIsWithin count) → WhyIsWithin count (state_refusal r)
+state_shown :
+    (count : ℕ) (r : Option Record) → IfSome r (RecordIsWithin count)
+    → WhyIsWithin count (state_refusal r)
 state_shown count (Some (Live hop bytes)) h = tt
 state_shown count r h = h
 
 -- either of two outcomes
-if_within : (count : ℕ) (b : Bool) (x y : Outcome Store) → OutcomeIsWithin count x → OutcomeIsWithin count y → OutcomeIsWithin count (cond b x y)
+if_within :
+    (count : ℕ) (b : Bool) (x y : Outcome Store) → OutcomeIsWithin count x → OutcomeIsWithin count y
+    → OutcomeIsWithin count (cond b x y)
 if_within count true x y h k = h
 if_within count false x y h k = k
 
 -- a slot with parts or with none
-unwrapped : (count : ℕ) (o : Option Slot) → IfSome o (SlotIsWithin count) → SlotIsWithin count (unwrap_or o bare)
+unwrapped :
+    (count : ℕ) (o : Option Slot) → IfSome o (SlotIsWithin count)
+    → SlotIsWithin count (unwrap_or o bare)
 unwrapped count None h = tt
 unwrapped count (Some p) h = h
 
@@ -198,10 +210,15 @@ module _ (count : ℕ) (s : Store) (h : StoreIsWithin count s) where
 -- ---- requests about names
 
 -- the slot that a request makes of a slot
-when_within : (count : ℕ) (b : Bool) (p : Slot) → SlotIsWithin count p → IfSome (when b p) (SlotIsWithin count)
+when_within :
+    (count : ℕ) (b : Bool) (p : Slot) → SlotIsWithin count p
+    → IfSome (when b p) (SlotIsWithin count)
 when_within count b p h = cond_both b (Some p) None (λ r. IfSome r (SlotIsWithin count)) (λ t. h) (λ t. tt)
 
-slot_row_within : (count : ℕ) (bricks : List (List ℕ)) (s : Store) (q : NameRequest) (p : Slot) → NameMayBeSent count q → SlotIsWithin count p → IfSome (slot_row bricks s q p) (SlotIsWithin count)
+slot_row_within :
+    (count : ℕ) (bricks : List (List ℕ)) (s : Store) (q : NameRequest) (p : Slot)
+    → NameMayBeSent count q → SlotIsWithin count p
+    → IfSome (slot_row bricks s q p) (SlotIsWithin count)
 slot_row_within count bricks s (Look d n) p sent h = tt
 slot_row_within count bricks s (Page d after) p sent h = tt
 slot_row_within count bricks s (Dirinfo d) p sent h = tt
@@ -218,7 +235,9 @@ given_by_within : (count : ℕ) (q : NameRequest) (s : Store) → GivenIsWithin 
 given_by_within count (Unlink d n f) s = tt
 given_by_within count q s = tt
 
-beside_within : (count : ℕ) (q : NameRequest) (s : Store) → NameMayBeSent count q → IsHomed count (name_named q).0 → StoreIsWithin count s → StoreIsWithin count (beside q s)
+beside_within :
+    (count : ℕ) (q : NameRequest) (s : Store) → NameMayBeSent count q
+    → IsHomed count (name_named q).0 → StoreIsWithin count s → StoreIsWithin count (beside q s)
 beside_within count (MakeDir d n g depth value) s sent homed h = with_dir_within count s h g _ (sent.0.0, homed)
 beside_within count (DropDir d n g) s sent homed h = without_dir_within count s h g
 beside_within count (Create d n f) s sent homed h = with_file_within count s h f (Live 0 []) tt
@@ -237,11 +256,15 @@ module _ (count : ℕ) (bricks : List (List ℕ)) (q : NameRequest) (sent : Name
   name_change_within : OutcomeIsWithin count (in_dir (dir s (name_named q).0) (λ r. slot_change bricks q s (name_named q)))
   name_change_within = in_dir_within count s h (name_named q).0 _ (λ r known. slot_change_within (name_named q) known.0)
 
-if_empty_within : (count : ℕ) (b : Bool) (outcome : Outcome Store) → OutcomeIsWithin count outcome → OutcomeIsWithin count (if_empty b outcome)
+if_empty_within :
+    (count : ℕ) (b : Bool) (outcome : Outcome Store) → OutcomeIsWithin count outcome
+    → OutcomeIsWithin count (if_empty b outcome)
 if_empty_within count true (Do given new) h = tt
 if_empty_within count b outcome h = h
 
-name_row_within : (count : ℕ) (bricks : List (List ℕ)) (q : NameRequest) (s : Store) → NameMayBeSent count q → StoreIsWithin count s → OutcomeIsWithin count (name_row bricks q s)
+name_row_within :
+    (count : ℕ) (bricks : List (List ℕ)) (q : NameRequest) (s : Store) → NameMayBeSent count q
+    → StoreIsWithin count s → OutcomeIsWithin count (name_row bricks q s)
 name_row_within count bricks (Look d n) s sent h = in_dir_within count s h d _ (λ r known. ((slot_is_within count s h (d, n), look_is_within count s h (file_or_readied (slot s (d, n)))), h))
 name_row_within count bricks (Page d after) s sent h = in_dir_within count s h d _ (λ r known. (page_is_within count s h d after, h))
 name_row_within count bricks (Dirinfo d) s sent h = in_dir_within count s h d _ (λ r known. (known.1, h))
@@ -315,11 +338,16 @@ module _ (count : ℕ) (s : Store) (h : StoreIsWithin count s) where
   record_row_within bricks (Drop f) r sent known = on_record_within r _ known (λ x k. if_within count (links s.slots f == 0) _ _ (tt, without_file_within count s h f) tt)
   record_row_within bricks q r sent known = on_bytes_within r (file_of q) _ known
 
-guarded_within : (count : ℕ) (decided : Cell) (r : Option Record) (outcome : Outcome Store) → IfSome r (RecordIsWithin count) → OutcomeIsWithin count outcome → OutcomeIsWithin count (guarded decided r outcome)
+guarded_within :
+    (count : ℕ) (decided : Cell) (r : Option Record) (outcome : Outcome Store)
+    → IfSome r (RecordIsWithin count) → OutcomeIsWithin count outcome
+    → OutcomeIsWithin count (guarded decided r outcome)
 guarded_within count cell.Refuse r outcome known h = state_shown count r known
 guarded_within count decided r outcome known h = h
 
-file_row_within : (count : ℕ) (bricks : List (List ℕ)) (q : FileRequest) (s : Store) → FileMayBeSent count q → StoreIsWithin count s → OutcomeIsWithin count (file_row bricks q s)
+file_row_within :
+    (count : ℕ) (bricks : List (List ℕ)) (q : FileRequest) (s : Store) → FileMayBeSent count q
+    → StoreIsWithin count s → OutcomeIsWithin count (file_row bricks q s)
 file_row_within count bricks q s sent h =
     let f = file_of q in
     guarded_within count (file_cell_of (row_of q) (state_of (file s f))) (file s f) (record_row bricks q s (file s f)) (h.files f) (record_row_within count s h bricks q (file s f) sent (h.files f))
@@ -331,21 +359,32 @@ abbrev RowIsWithin : ℕ → Outcome Contents → Contents → Type 0
 RowIsWithin count outcome old = StoreIsWithin count (left_by outcome old).store × ReplyIsWithin count (reply_in outcome)
 
 -- from the outcome for the store
-of_store : (count : ℕ) (c : Contents) (outcome : Outcome Store) → StoreIsWithin count c.store → OutcomeIsWithin count outcome → RowIsWithin count (within (with_store c) outcome) c
+of_store :
+    (count : ℕ) (c : Contents) (outcome : Outcome Store) → StoreIsWithin count c.store
+    → OutcomeIsWithin count outcome → RowIsWithin count (within (with_store c) outcome) c
 of_store count c (Do given new) h k = (k.1, k.0)
 of_store count c (Refuse reason) h k = (h, k)
 of_store count c (Await holder) h k = (h, tt)
 
 -- registrations and seals are not of the store
-of_opens : (count : ℕ) (c : Contents) (b : Bool) (x y : Outcome Opens) → RowIsWithin count (within (with_opens c) x) c → RowIsWithin count (within (with_opens c) y) c → RowIsWithin count (within (with_opens c) (cond b x y)) c
+of_opens :
+    (count : ℕ) (c : Contents) (b : Bool) (x y : Outcome Opens)
+    → RowIsWithin count (within (with_opens c) x) c → RowIsWithin count (within (with_opens c) y) c
+    → RowIsWithin count (within (with_opens c) (cond b x y)) c
 of_opens count c b x y h k = cond_both b x y (λ r. RowIsWithin count (within (with_opens c) r) c) (λ t. h) (λ t. k)
 
 -- nor are locks
-of_locks : (count : ℕ) (c : Contents) (holder : Option ℕ) (new : Locks) → StoreIsWithin count c.store → RowIsWithin count (within (with_locks c) (unless_awaited holder (Do given.Nothing new))) c
+of_locks :
+    (count : ℕ) (c : Contents) (holder : Option ℕ) (new : Locks) → StoreIsWithin count c.store
+    → RowIsWithin count (within (with_locks c) (unless_awaited holder (Do given.Nothing new))) c
 of_locks count c None new h = (h, tt)
 of_locks count c (Some n) new h = (h, tt)
 
-row_is_within : (count : ℕ) (bricks : List (List ℕ)) (client : ClientNo) (call : CallNo) (q : Request) (c : Contents) → StoreIsWithin count c.store → MayBeSent count q → RowIsWithin count (row bricks client call q c) c
+row_is_within :
+    (count : ℕ) (bricks : List (List ℕ)) (client : ClientNo) (call : CallNo) (q : Request)
+    (c : Contents)
+    → StoreIsWithin count c.store → MayBeSent count q
+    → RowIsWithin count (row bricks client call q c) c
 row_is_within count bricks client call (Lock key mode) c h sent = of_locks count c (awaited c.locks client key mode) _ h
 row_is_within count bricks client call (Register f) c h sent = of_opens count c (is_sealed c.opens f) _ _ (h, tt) (h, tt)
 row_is_within count bricks client call (Seal f) c h sent = of_opens count c (registrations c.opens f == 0) _ _ (h, tt) (h, tt)
@@ -376,7 +415,9 @@ remounted_stays_within count c h =
     let files = c.store.files in
     record { dirs = h.dirs; slots = h.slots; files = each-retain_keys gfid_total gfid_exact (λ k. RecordIsWithin count) files (λ f. not (is_forward (get files f))) h.files }
 
-layout_poked : (count : ℕ) (d : Gfid) (value : List ℕ) (s : Store) (r : Option DirRecord) → StoreIsWithin count s → IfSome r (DirIsWithin count d)
+layout_poked :
+    (count : ℕ) (d : Gfid) (value : List ℕ) (s : Store) (r : Option DirRecord)
+    → StoreIsWithin count s → IfSome r (DirIsWithin count d)
     → IfSome (option_map (λ x. with_dir s d (record x { value = Some value })) r) (StoreIsWithin count)
 layout_poked count d value s None h known = tt
 layout_poked count d value s (Some r) h known = with_dir_within count s h d (record r { value = Some value }) known

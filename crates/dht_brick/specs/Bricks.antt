@@ -51,9 +51,11 @@ unless_down reply.Down old new = old
 unless_down r old new = new
 
 -- a request of a call of a client was served
-pub record ServesRequest (client : ClientNo) (call : CallNo) (q : Request) (old : BrickState) (r : Reply) (new : BrickState) : Type 0 where
+pub record ServesRequest (client : ClientNo) (call : CallNo) (q : Request) (old : BrickState)
+    (r : Reply) (new : BrickState) : Type 0 where
   -- the reply is by the row, but for a brick that is down, that failed, or that was out of memory
-  pub row : ServesOrFails (row old.volume.names client call q old.contents) old.contents r new.contents
+  pub row :
+      ServesOrFails (row old.volume.names client call q old.contents) old.contents r new.contents
   pub down : (r ≡ reply.Down) ↔ (is_unreachable old.is_up q ≡ true)
   pub failed : r ≡ reply.Failed → HasFault old.faults new.faults
   pub cause : r ≡ reply.Failed → old.is_faultless ≡ true → old.is_armed ≡ true
@@ -62,10 +64,19 @@ pub record ServesRequest (client : ClientNo) (call : CallNo) (q : Request) (old 
   pub count : old.faults ≤ new.faults
   pub quiet : old.is_faultless ≡ true → r ≢ reply.Failed → new.faults ≡ old.faults
   -- a request that was served has an entry in the journal
-  pub journal : new.journal ≡ unless_down r old.journal (old.journal ++ entry_of client call q r ∷ [])
+  pub journal :
+      new.journal ≡ unless_down r old.journal (old.journal ++ entry_of client call q r ∷ [])
   pub spare : new.spare ≡ unless_down r old.spare (old.spare - 1)
   pub disarmed : new.is_armed ≡ unless_down r old.is_armed false
-  pub same : new ≡ record old { contents = new.contents; is_armed = new.is_armed; faults = new.faults; journal = new.journal; spare = new.spare }
+  pub same :
+      new
+      ≡ record old {
+        contents = new.contents;
+        is_armed = new.is_armed;
+        faults = new.faults;
+        journal = new.journal;
+        spare = new.spare;
+      }
 
 -- a poke changes something so, or nothing
 abbrev pub PokesTo : {A : Type 0} → Option A → A → Result (Unit {0}) PokeFault → A → Type 0
@@ -75,8 +86,11 @@ PokesTo to old (Err fault.Failed) new = new ≡ old
 PokesTo to old (Err fault.OutOfMemory) new = new ≡ old
 
 -- a value was set from outside, or not
-pub record Pokes (at : PokeAt) (value : List ℕ) (old : BrickState) (result : Result (Unit {0}) PokeFault) (new : BrickState) : Type 0 where
-  pub to : PokesTo (option_map (with_store old.contents) (poked at value old.contents.store)) old.contents result new.contents
+pub record Pokes (at : PokeAt) (value : List ℕ) (old : BrickState)
+    (result : Result (Unit {0}) PokeFault) (new : BrickState) : Type 0 where
+  pub to :
+      PokesTo (option_map (with_store old.contents) (poked at value old.contents.store)) old.contents
+      result new.contents
   pub failed : result ≡ Err fault.Failed → HasFault old.faults new.faults
   pub cause : old.is_faultless ≡ true → result ≢ Err fault.Failed
   pub count : old.faults ≤ new.faults
@@ -84,7 +98,8 @@ pub record Pokes (at : PokeAt) (value : List ℕ) (old : BrickState) (result : R
   pub same : new ≡ record old { contents = new.contents; faults = new.faults }
 
 -- a new brick, whose root has this attribute
-pub record IsNewborn (b : ℕ) (v : VolumeInfo) (value : Option (List ℕ)) (s : BrickState) : Type 0 where
+pub record IsNewborn (b : ℕ) (v : VolumeInfo) (value : Option (List ℕ)) (s : BrickState)
+    : Type 0 where
   pub number : s.number ≡ b
   pub volume : s.volume ≡ v
   pub contents : s.contents ≡ newborn value

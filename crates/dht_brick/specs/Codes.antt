@@ -21,8 +21,10 @@ files_code = map.code gfid.the_row.coded record_of_file.the_row.coded
 
 abbrev pub tables_code : Coded Tables
 tables_code =
-    code_by (Dirs × (Slots × List (List ℕ))) (coded× dirs_code (coded× slots_code (coded_list (coded_list coded_ℕ))))
-    (λ t. (t.dirs, (t.slots, t.bricks))) (λ p. record { dirs = p.0; slots = p.1.0; bricks = p.1.1 }) (λ _. refl)
+    code_by (Dirs × (Slots × List (List ℕ)))
+    (coded× dirs_code (coded× slots_code (coded_list (coded_list coded_ℕ))))
+    (λ t. (t.dirs, (t.slots, t.bricks))) (λ p. record { dirs = p.0; slots = p.1.0; bricks = p.1.1 })
+    (λ _. refl)
 
 abbrev pub opens_code : Coded Opens
 opens_code =

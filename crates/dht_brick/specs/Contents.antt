@@ -24,7 +24,9 @@ entry_cmp a b = ordering_then (gfid_cmp a.0 b.0) (slice_cmp nat_cmp a.1 b.1)
 
 -- registrations by file, client and call
 abbrev pub registration_cmp : Registration → Registration → Ordering
-registration_cmp a b = ordering_then (gfid_cmp a.file b.file) (ordering_then (nat_cmp a.client.0 b.client.0) (nat_cmp a.call.0 b.call.0))
+registration_cmp a b =
+    ordering_then (gfid_cmp a.file b.file)
+    (ordering_then (nat_cmp a.client.0 b.client.0) (nat_cmp a.call.0 b.call.0))
 
 -- the name of a slot
 abbrev pub entry_at : EntryKey → Entry
@@ -61,7 +63,8 @@ pub record Store : Type 0 where
   pub slots : Slots
   pub files : Files
 
--- the files that clients have opened, and those that can be opened no more: sets, as maps with nothing at each key
+-- the files that clients have opened, and those that can be
+-- opened no more: sets, as maps with nothing at each key
 pub record Opens : Type 0 where
   pub registered : FinMap registration_cmp (Unit {0})
   pub sealed : FinMap gfid_cmp (Unit {0})
@@ -97,7 +100,12 @@ no_locks key client = None
 -- a new brick: the record of the root alone, with this attribute
 abbrev pub newborn : Option (List ℕ) → Contents
 newborn v = record {
-  store = record { dirs = insert empty root (record { place = None; depth = 0; value = v }); slots = empty; files = empty };
+  store =
+      record {
+        dirs = insert empty root (record { place = None; depth = 0; value = v });
+        slots = empty;
+        files = empty;
+      };
   opens = no_opens;
   locks = no_locks;
 }

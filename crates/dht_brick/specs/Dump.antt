@@ -26,7 +26,8 @@ slot_line b e = line.Slot b e.0.0 e.0.1 e.1
 abbrev pub record_told : ℕ → Record → RecordLine
 record_told n (Live hop bytes) = record_line.Live hop n (length bytes) (sha256 bytes)
 record_told n (Moving hop dest bytes) = record_line.Moving hop n (length bytes) (sha256 bytes) dest
-record_told n (Standby c) = record_line.Standby c.hop c.source (length c.bytes) (sha256 c.bytes) c.is_dirty
+record_told n (Standby c) =
+    record_line.Standby c.hop c.source (length c.bytes) (sha256 c.bytes) c.is_dirty
 record_told n (Forward hop brick) = record_line.Forward brick hop
 
 abbrev pub file_line : BrickNo → Store → Gfid × Record → DumpLine
@@ -34,4 +35,7 @@ file_line b s e = line.File b e.0 (record_told (links s.slots e.0) e.1)
 
 -- the brick and whether it is up, then its directories, slots and files, each by its key
 abbrev pub dump_of : BrickNo → Bool → Store → List DumpLine
-dump_of b is_up s = line.Brick b is_up ∷ (map (dir_line b) (entries s.dirs) ++ map (slot_line b) (entries s.slots) ++ map (file_line b s) (entries s.files))
+dump_of b is_up s =
+    line.Brick b is_up
+    ∷ (map (dir_line b) (entries s.dirs) ++ map (slot_line b) (entries s.slots)
+    ++ map (file_line b s) (entries s.files))

@@ -113,7 +113,8 @@ DirIsRestored = (t : Tables) (g : Gfid) (r : DirRecord) → get t.dirs g ≡ Som
 abbrev pub NeverIsNotInMemory : Type 0
 NeverIsNotInMemory = (q : Request) → NeverTakesMemory q → TakesNoMemory q
 
--- where contents name only bricks of a volume of so many, a request that may be sent leaves what names only such
+-- where contents name only bricks of a volume of so many,
+-- a request that may be sent leaves what names only such
 abbrev pub RowsStayWithin : Type 0
 RowsStayWithin = (count : ℕ) (bricks : List (List ℕ)) (client : ClientNo) (call : CallNo) (q : Request) (c : Contents)
     → StoreIsWithin count c.store → MayBeSent count q → StoreIsWithin count (after bricks client call q c).store

@@ -9,7 +9,9 @@ use Rattle.dht_brick.specs.Parts.{is_file, is_contested, is_standlink, is_visibl
 
 -- the links of a file: the names that are the file's, and those that are readied for it
 unfoldable pub links : Slots → Gfid → ℕ
-links s f = count_by (λ p. is_file f p.main) (values s) + count_by (λ p. is_standlink f p.standby) (values s)
+links s f =
+    count_by (λ p. is_file f p.main) (values s)
+    + count_by (λ p. is_standlink f p.standby) (values s)
 
 -- a name of the file is marked for a rename
 unfoldable pub is_marked : Slots → Gfid → Bool

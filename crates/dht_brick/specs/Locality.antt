@@ -20,7 +20,8 @@ use Rattle.dht_brick.specs.declared.requests.NameRequest.TheVariants.{Look, Page
 use Rattle.dht_brick.specs.declared.requests.FileRequest.{FileRequest}
 use Rattle.dht_brick.specs.declared.requests.FileRequest.TheVariants.{MakeStandby, DropStandby, Demote, Promote}
 
--- one slot, the record of one directory and that of one file at most, and the slots in a directory that is dropped
+-- one slot, the record of one directory and that of one file
+-- at most, and the slots in a directory that is dropped
 pub record Places : Type 0 where
   pub slot : Option Entry
   pub dir : Option Gfid
@@ -29,7 +30,8 @@ pub record Places : Type 0 where
 
 -- elsewhere the one store is as the other
 pub record ChangesOnly (p : Places) (old new : Store) : Type 0 where
-  pub slots : (e : Entry) → p.slot ≢ Some e → p.dropped ≢ Some e.0 → get new.slots e ≡ get old.slots e
+  pub slots :
+      (e : Entry) → p.slot ≢ Some e → p.dropped ≢ Some e.0 → get new.slots e ≡ get old.slots e
   pub dirs : (g : Gfid) → p.dir ≢ Some g → get new.dirs g ≡ get old.dirs g
   pub files : (f : Gfid) → p.file ≢ Some f → get new.files f ≡ get old.files f
 
@@ -57,7 +59,8 @@ name_places (Create d n f) = record nowhere { slot = Some (d, n); file = Some f 
 name_places (Orphans after) = nowhere
 name_places q = at_slot (name_named q)
 
--- the slot that a request about a file may change, by the file's record: that of a copy, or of the name that it gives
+-- the slot that a request about a file may change, by the
+-- file's record: that of a copy, or of the name that it gives
 abbrev pub file_slot : FileRequest → Option Record → Option Entry
 file_slot (MakeStandby f d n source hop) r = Some (d, n)
 file_slot (Demote f d n) r = Some (d, n)
@@ -70,12 +73,18 @@ abbrev pub file_places : FileRequest → Option Record → Places
 file_places q r = record nowhere { slot = file_slot q r; file = Some (file_of q) }
 
 abbrev pub NamesAreLocal : Type 0
-NamesAreLocal = (bricks : List (List ℕ)) (q : NameRequest) (s : Store) → IsLocal (name_places q) s (name_row bricks q s)
+NamesAreLocal =
+    (bricks : List (List ℕ)) (q : NameRequest) (s : Store)
+    → IsLocal (name_places q) s (name_row bricks q s)
 
 abbrev pub FilesAreLocal : Type 0
-FilesAreLocal = (bricks : List (List ℕ)) (q : FileRequest) (s : Store) → IsLocal (file_places q (file s (file_of q))) s (file_row bricks q s)
+FilesAreLocal =
+    (bricks : List (List ℕ)) (q : FileRequest) (s : Store)
+    → IsLocal (file_places q (file s (file_of q))) s (file_row bricks q s)
 
 -- a request changes no lock of another client
 abbrev pub LocksAreLocal : Type 0
-LocksAreLocal = (bricks : List (List ℕ)) (client : ClientNo) (call : CallNo) (q : Request) (c : Contents) (key : Key) (other : ℕ)
+LocksAreLocal =
+    (bricks : List (List ℕ)) (client : ClientNo) (call : CallNo) (q : Request) (c : Contents)
+    (key : Key) (other : ℕ)
     → other ≢ client.0 → (after bricks client call q c).locks key other ≡ c.locks key other

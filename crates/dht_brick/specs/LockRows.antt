@@ -1,4 +1,5 @@
--- The rows of locks. A lock is granted, unless another client holds it in a mode that excludes the one asked for.
+-- The rows of locks. A lock is granted, unless another
+-- client holds it in a mode that excludes the one asked for.
 use Rattle.std.specs.Prelude.{ℕ, zero, suc, ◌<◌, ◌≡◌, Bool, true, false, not, ◌&&◌, nat_eq, if◌then◌else◌, Option, Some, None}
 use Rattle.dht_types.specs.Gfid.{same_gfid}
 use Rattle.dht_types.specs.Put.{put, same_entry}
@@ -60,7 +61,9 @@ unless_awaited None outcome = outcome
 unless_awaited (Some holder) outcome = Await (record { 0 = holder })
 
 abbrev pub lock_row : ClientNo → Key → Mode → Locks → Outcome Locks
-lock_row client key mode locks = unless_awaited (awaited locks client key mode) (Do given.Nothing (held locks key client.0 (Some mode)))
+lock_row client key mode locks =
+    unless_awaited (awaited locks client key mode)
+    (Do given.Nothing (held locks key client.0 (Some mode)))
 
 abbrev pub unlock_row : ClientNo → Key → Locks → Outcome Locks
 unlock_row client key locks = Do given.Nothing (held locks key client.0 None)

@@ -54,7 +54,12 @@ dest_of r = None
 -- each number is 0 where there is no record
 abbrev pub shape_of : Option Record → Shape
 shape_of None = record { state = state_of None; hop = 0; brick = record { 0 = 0 }; length = 0 }
-shape_of (Some r) = record { state = state_of (Some r); hop = hop_of r; brick = brick_of r; length = length (bytes_of r) }
+shape_of (Some r) = record {
+  state = state_of (Some r);
+  hop = hop_of r;
+  brick = brick_of r;
+  length = length (bytes_of r);
+}
 
 abbrev pub file_hop : Store → Gfid → ℕ
 file_hop s f = (shape_of (file s f)).hop
@@ -62,7 +67,12 @@ file_hop s f = (shape_of (file s f)).hop
 -- ---- a look at a name
 
 abbrev pub file_look : Store → Gfid → FileLook
-file_look s f = record { state = state_of (file s f); hop = file_hop s f; dest = dest_of (file s f); links = links s.slots f }
+file_look s f = record {
+  state = state_of (file s f);
+  hop = file_hop s f;
+  dest = dest_of (file s f);
+  links = links s.slots f;
+}
 
 -- the file whose name is readied
 abbrev pub readied : Option Standby → Option Gfid
@@ -92,10 +102,20 @@ look_of s e r = record {
 }
 
 abbrev pub info_of : Store → Gfid → DirRecord → DirInfo
-info_of s g r = record { place = r.place; depth = r.depth; value = r.value; is_occupied = is_occupied s.slots g }
+info_of s g r = record {
+  place = r.place;
+  depth = r.depth;
+  value = r.value;
+  is_occupied = is_occupied s.slots g;
+}
 
 abbrev pub stat_of : Store → Gfid → Record → Stat
-stat_of s f r = record { length = length (bytes_of r); hop = hop_of r; links = links s.slots f; dest = dest_of (Some r) }
+stat_of s f r = record {
+  length = length (bytes_of r);
+  hop = hop_of r;
+  links = links s.slots f;
+  dest = dest_of (Some r);
+}
 
 -- ---- pages
 
@@ -119,7 +139,8 @@ page_entry e = record { name = e.0.1; dir = dir_at e.1.main }
 
 -- the visible names of a directory above one, in their order
 unfoldable pub page_of : Slots → Gfid → Option (List ℕ) → List PageEntry
-page_of slots d after = take page_size (map page_entry (filter (is_on_page d after) (entries slots)))
+page_of slots d after =
+    take page_size (map page_entry (filter (is_on_page d after) (entries slots)))
 
 abbrev pub is_gfid_above : Option Gfid → Gfid → Bool
 is_gfid_above None f = true

@@ -12,7 +12,8 @@ NeverTakesMemory (Unlock key) = Unit {0}
 NeverTakesMemory (Unregister f call) = Unit {0}
 NeverTakesMemory q = ⊥
 
--- about names, on a brick in memory: a linkto, a mark or a readied name goes, and a name is swapped or becomes the file's that it was readied for
+-- about names, on a brick in memory: a linkto, a mark or a readied name
+-- goes, and a name is swapped or becomes the file's that it was readied for
 abbrev pub NameTakesNoMemory : NameRequest → Type 0
 NameTakesNoMemory (DropLinkto d n) = Unit {0}
 NameTakesNoMemory (Uncontest d n f) = Unit {0}
@@ -21,7 +22,8 @@ NameTakesNoMemory (Swap d n f value) = Unit {0}
 NameTakesNoMemory (PromoteLink d n f) = Unit {0}
 NameTakesNoMemory q = ⊥
 
--- about files, on a brick in memory: a file is moved no longer, is given up or becomes the one of its copy, a copy is clean, and a file without links goes
+-- about files, on a brick in memory: a file is moved no longer, is given up or
+-- becomes the one of its copy, a copy is clean, and a file without links goes
 abbrev pub FileTakesNoMemory : FileRequest → Type 0
 FileTakesNoMemory (Unmark f) = Unit {0}
 FileTakesNoMemory (ClearDirty f) = Unit {0}

@@ -26,30 +26,41 @@ when test p = if test then Some p else None
 
 -- the value names a brick for which the name of the file is marked
 abbrev pub names_over : List (List ℕ) → List ℕ → Gfid → Option Main → Bool
-names_over bricks value f m = option_map_or (λ brick. is_over f brick m) (linked_brick bricks value) false
+names_over bricks value f m =
+    option_map_or (λ brick. is_over f brick m) (linked_brick bricks value) false
 
 -- the slot that a request makes of a slot, where the slot and the named files are as it wants them
 abbrev pub slot_row : List (List ℕ) → Store → NameRequest → Slot → Option Slot
 slot_row bricks s (MakeDir d n g depth value) p = when (is_free p) (with_main p (Dir g))
 slot_row bricks s (DropDir d n g) p = when (is_dir g p.main) (without_main p)
-slot_row bricks s (Create d n f) p = when (is_bare p && is_none (file s f)) (with_main p (File f None))
+slot_row bricks s (Create d n f) p =
+    when (is_bare p && is_none (file s f)) (with_main p (File f None))
 slot_row bricks s (MakeLinkto d n value) p = when (is_vacant p.main) (with_main p (Linkto value))
 slot_row bricks s (DropLinkto d n) p = when (is_linkto p.main) (without_main p)
 slot_row bricks s (Unlink d n f) p = when (is_plain f p.main && is_live (file s f)) (without_main p)
-slot_row bricks s (Link d n f) p = when (is_free p && is_live (file s f)) (with_main p (File f None))
+slot_row bricks s (Link d n f) p =
+    when (is_free p && is_live (file s f)) (with_main p (File f None))
 slot_row bricks s (LinkOver d n f over) p =
-    when (is_plain over p.main && not (same_gfid f over) && is_live (file s f) && is_live (file s over)) (with_main p (File f None))
-slot_row bricks s (Contest d n f brick) p = when (is_plain f p.main && is_live (file s f)) (with_main p (File f (Some brick)))
+    when (is_plain over p.main && not (same_gfid f over) && is_live (file s f)
+    && is_live (file s over))
+    (with_main p (File f None))
+slot_row bricks s (Contest d n f brick) p =
+    when (is_plain f p.main && is_live (file s f)) (with_main p (File f (Some brick)))
 slot_row bricks s (Uncontest d n f) p = when (is_contested f p.main) (with_main p (File f None))
-slot_row bricks s (StandLink d n f) p = when (is_free p && is_live (file s f)) (with_standby p (standby.StandLink f))
+slot_row bricks s (StandLink d n f) p =
+    when (is_free p && is_live (file s f)) (with_standby p (standby.StandLink f))
 slot_row bricks s (DropStandLink d n f) p = when (is_standlink f p.standby) (without_standby p)
-slot_row bricks s (Swap d n f value) p = when (names_over bricks value f p.main) (with_main p (Linkto value))
-slot_row bricks s (PromoteLink d n f) p = when (is_standlink f p.standby) (with_main bare (File f None))
+slot_row bricks s (Swap d n f value) p =
+    when (names_over bricks value f p.main) (with_main p (Linkto value))
+slot_row bricks s (PromoteLink d n f) p =
+    when (is_standlink f p.standby) (with_main bare (File f None))
 slot_row bricks s q p = None
 
 -- the record that comes or goes with the slot
 abbrev pub beside : NameRequest → Store → Store
-beside (MakeDir d n g depth value) s = with_dir s g (record { place = Some (record { dir = d; name = n }); depth = depth; value = value })
+beside (MakeDir d n g depth value) s =
+    with_dir s g
+    (record { place = Some (record { dir = d; name = n }); depth = depth; value = value })
 beside (DropDir d n g) s = without_dir s g
 beside (Create d n f) s = with_file s f (Live 0 [])
 beside q s = s
@@ -80,9 +91,13 @@ if_empty occupied outcome = outcome
 -- the row of a request, over a brick that knows bricks of these names
 abbrev pub name_row : List (List ℕ) → NameRequest → Store → Outcome Store
 name_row bricks (Look d n) s = in_dir (dir s d) (λ r. Do (given.Look (look_of s (d, n) r)) s)
-name_row bricks (Page d after) s = in_dir (dir s d) (λ r. Do (given.Page (page_of s.slots d after)) s)
+name_row bricks (Page d after) s =
+    in_dir (dir s d) (λ r. Do (given.Page (page_of s.slots d after)) s)
 name_row bricks (Dirinfo d) s = in_dir (dir s d) (λ r. Do (given.Dirinfo (info_of s d r)) s)
-name_row bricks (SetLayout d value) s = in_dir (dir s d) (λ r. Do given.Nothing (with_dir s d (record r { value = value })))
-name_row bricks (DropDir d n g) s = in_dir (dir s d) (λ r. if_empty (is_occupied s.slots g) (slot_change bricks (DropDir d n g) s (d, n)))
+name_row bricks (SetLayout d value) s =
+    in_dir (dir s d) (λ r. Do given.Nothing (with_dir s d (record r { value = value })))
+name_row bricks (DropDir d n g) s =
+    in_dir (dir s d)
+    (λ r. if_empty (is_occupied s.slots g) (slot_change bricks (DropDir d n g) s (d, n)))
 name_row bricks (Orphans after) s = Do (given.Orphans (orphans_of s after)) s
 name_row bricks q s = in_dir (dir s (name_named q).0) (λ r. slot_change bricks q s (name_named q))

@@ -31,7 +31,8 @@ abbrev pub registration : Gfid → ClientNo → CallNo → Registration
 registration f client call = record { file = f; client = client; call = call }
 
 abbrev pub register_row : ClientNo → CallNo → Gfid → Opens → Outcome Opens
-register_row client call f o = unless (is_sealed o f) why.Sealed (Do given.Nothing (registered o (registration f client call)))
+register_row client call f o =
+    unless (is_sealed o f) why.Sealed (Do given.Nothing (registered o (registration f client call)))
 
 abbrev pub left_open : Gfid → Opens → Outcome Opens
 left_open f o = Do (given.Registrations (registrations o f)) o
@@ -40,4 +41,7 @@ abbrev pub unregister_row : ClientNo → Gfid → CallNo → Opens → Outcome O
 unregister_row client f call o = left_open f (unregistered o (registration f client call))
 
 abbrev pub seal_row : Gfid → Opens → Outcome Opens
-seal_row f o = if registrations o f == 0 then Do given.Nothing (sealed o f) else Refuse (why.Open (registrations o f))
+seal_row f o =
+    if registrations o f == 0
+    then Do given.Nothing (sealed o f)
+    else Refuse (why.Open (registrations o f))

@@ -1,4 +1,5 @@
--- What each request does to a brick: the row of the request, as the reply and the contents after it.
+-- What each request does to a brick: the row of the
+-- request, as the reply and the contents after it.
 use Rattle.std.specs.Prelude.{ℕ, List}
 use Rattle.dht_types.specs.declared.identifiers.ClientNo.{ClientNo}
 use Rattle.dht_types.specs.declared.identifiers.CallNo.{CallNo}
@@ -27,7 +28,8 @@ abbrev pub row : List (List ℕ) → ClientNo → CallNo → Request → Content
 row bricks client call (Lock key mode) c = within (with_locks c) (lock_row client key mode c.locks)
 row bricks client call (Unlock key) c = within (with_locks c) (unlock_row client key c.locks)
 row bricks client call (Register f) c = within (with_opens c) (register_row client call f c.opens)
-row bricks client call (Unregister f opened) c = within (with_opens c) (unregister_row client f opened c.opens)
+row bricks client call (Unregister f opened) c =
+    within (with_opens c) (unregister_row client f opened c.opens)
 row bricks client call (Seal f) c = within (with_opens c) (seal_row f c.opens)
 row bricks client call (OnNames q) c = within (with_store c) (name_row bricks q c.store)
 row bricks client call (OnFile q) c = within (with_store c) (file_row bricks q c.store)

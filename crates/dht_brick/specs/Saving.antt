@@ -29,7 +29,8 @@ unfoldable pub slots_saved : Slots → Gfid → List SavedSlot
 slots_saved slots g = map saved_slot (filter (λ e. same_gfid g e.0.0) (entries slots))
 
 abbrev pub dir_saved : Tables → Gfid → Option SavedDir
-dir_saved t g = option_map (λ r. record { gfid = g; dir = r; slots = slots_saved t.slots g }) (get t.dirs g)
+dir_saved t g =
+    option_map (λ r. record { gfid = g; dir = r; slots = slots_saved t.slots g }) (get t.dirs g)
 
 -- with these slots in a directory too
 abbrev pub slots_restored : Gfid → List SavedSlot → Slots → Slots
@@ -39,7 +40,10 @@ slots_restored g (p ∷ ps) slots = insert (slots_restored g ps slots) (g, p.nam
 -- the record of a directory and its slots are these, or are gone
 abbrev pub dir_restored : Gfid → Option SavedDir → Tables → Tables
 dir_restored g None t = record t { dirs = remove t.dirs g; slots = slots_outside t.slots g }
-dir_restored g (Some d) t = record t { dirs = insert t.dirs g d.dir; slots = slots_restored g d.slots (slots_outside t.slots g) }
+dir_restored g (Some d) t = record t {
+  dirs = insert t.dirs g d.dir;
+  slots = slots_restored g d.slots (slots_outside t.slots g);
+}
 
 abbrev pub dir_in : Saved → Option SavedDir
 dir_in (saved.Dir d) = Some d

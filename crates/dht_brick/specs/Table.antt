@@ -35,7 +35,8 @@ Leaves state f (Await holder) = Unit {0}
 abbrev pub IsCarriedOut : Outcome Store → Type 0
 IsCarriedOut outcome = (given : Given) × ((new : Store) × (outcome ≡ Do given new))
 
--- a cell that refuses names the state, one that keeps changes nothing, and one without a test always changes
+-- a cell that refuses names the state, one that keeps
+-- changes nothing, and one without a test always changes
 abbrev pub Obeys : Cell → Store → Why → Outcome Store → Type 0
 Obeys cell.Refuse s why outcome = outcome ≡ Refuse why
 Obeys cell.Keep s why outcome = (given : Given) × (outcome ≡ Do given s)
@@ -45,7 +46,8 @@ Obeys (cell.Test next) s why outcome = Unit {0}
 -- the rows are those of the table
 abbrev pub LeavesAsTheTable : Type 0
 LeavesAsTheTable = (bricks : List (List ℕ)) (q : FileRequest) (s : Store)
-    → Leaves (left_in (cell_of q s) (state_of (file s (file_of q)))) (file_of q) (file_row bricks q s)
+    → Leaves (left_in (cell_of q s) (state_of (file s (file_of q)))) (file_of q)
+    (file_row bricks q s)
 
 abbrev pub ObeysTheTable : Type 0
 ObeysTheTable = (bricks : List (List ℕ)) (q : FileRequest) (s : Store)

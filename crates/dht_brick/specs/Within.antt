@@ -1,4 +1,5 @@
--- The requests that may be sent to a brick: by the bricks that they name, and their sizes. And what is stored and replied: by the bricks that it names.
+-- The requests that may be sent to a brick: by the bricks that they name, and
+-- their sizes. And what is stored and replied: by the bricks that it names.
 use Rattle.std.specs.Prelude.{ℕ, ◌<◌, ◌≢◌, Option, IfSome, All}
 use Rattle.std.specs.FinMap.{get}
 use Rattle.dht_types.specs.Gfid.{Entry, home, root}
@@ -88,7 +89,8 @@ RecordIsWithin count (Moving hop dest bytes) = IsBrick count dest
 RecordIsWithin count (Copied c) = IsBrick count c.source
 RecordIsWithin count (Forward hop brick) = IsBrick count brick
 
--- a store names only bricks of a volume of so many, and only directories whose homes are such bricks
+-- a store names only bricks of a volume of so many,
+-- and only directories whose homes are such bricks
 pub record StoreIsWithin (count : ℕ) (s : Store) : Type 0 where
   pub dirs : (g : Gfid) → IfSome (get s.dirs g) (DirIsWithin count g)
   pub slots : (e : Entry) → IfSome (get s.slots e) (SlotIsWithin count)
@@ -96,7 +98,8 @@ pub record StoreIsWithin (count : ℕ) (s : Store) : Type 0 where
 
 -- a look at a name: the slot, and the brick that the file is copied to
 abbrev pub LookIsWithin : ℕ → Look → Type 0
-LookIsWithin count look = SlotIsWithin count look.slot × IfSome look.file (λ f. IfSome f.dest (IsBrick count))
+LookIsWithin count look =
+    SlotIsWithin count look.slot × IfSome look.file (λ f. IfSome f.dest (IsBrick count))
 
 -- a name on a page: the home of its directory, if it is one
 abbrev pub PageEntryIsWithin : ℕ → PageEntry → Type 0

@@ -23,10 +23,11 @@ pub trait Brick: Sized {
     /// faults, its journal, and how many entries the journal still takes without memory.
     ghost state: { Self → BrickState };
 
-    /// Serves one request of a client's call, at once. Where it is down, only an unlock is served, and
-    /// nothing is noted. Else it fails, where it is armed; or it carries the request out or refuses it
-    /// by the request's row; or it is out of memory. Where it failed or was out of memory, it did
-    /// nothing with what it contains. Each reply but `Down` has an entry in its journal.
+    /// Serves one request of a client's call, at once. Where it is down, only an unlock is served,
+    /// and nothing is noted. Else it fails, where it is armed; or it carries the request out or
+    /// refuses it by the request's row; or it is out of memory. Where it failed or was out of
+    /// memory, it did nothing with what it contains. Each reply but `Down` has an entry in its
+    /// journal.
     fn serve(&mut self, client: ClientNo, call: CallNo, request: &Request) -> Reply
         requires spare { 1 ≤ (state self.old).spare }
         requires sent { MayBeSent (length (state self.old).volume.names) request.now }

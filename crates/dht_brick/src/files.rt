@@ -32,8 +32,8 @@ pub trait FileRecords {
     fn remove(&mut self, file: Gfid)
         ensures { files self.new ≡ remove (files self.old) file };
 
-    /// Up to 256 files above this one, or from the start, that are here and have no links among these
-    /// slots.
+    /// Up to 256 files above this one, or from the start, that are here and have no links among
+    /// these slots.
     fn orphans<S: Slots>(&self, after: Option<Gfid>, slots: &S) -> Result<Gfids, AllocError>
         ensures { IfOk result (λ found. found
             ≡ orphans_of (store_of (S.tables slots.now) (files self.now)) after) };

@@ -12,23 +12,23 @@ pub fn refusals_change_nothing()
     ensures waits { WaitsChangeNothing }
 {}
 
-/// A request that was served, and did not run out of memory, has the reply of its row, and leaves what
-/// the row leaves.
+/// A request that was served, and did not run out of memory, has the reply of its row, and leaves
+/// what the row leaves.
 pub fn served_is_by_row()
     ensures served { ServedByRow }
     ensures row { RowServes }
 {}
 
-/// The rows about a file's record do what the table of dht_guard says: they are refused, and leave the
-/// record in a state, as the cell does.
+/// The rows about a file's record do what the table of dht_guard says: they are refused, and leave
+/// the record in a state, as the cell does.
 pub fn file_rows_are_of_the_table()
     ensures leaves { LeavesAsTheTable }
     ensures obeys { ObeysTheTable }
 {}
 
-/// A request about names or about a file changes at most one slot, the record of one directory and that
-/// of one file; where a directory is dropped, the slots in it go too. No request changes a lock of
-/// another client.
+/// A request about names or about a file changes at most one slot, the record of one directory and
+/// that of one file; where a directory is dropped, the slots in it go too. No request changes a
+/// lock of another client.
 pub fn requests_are_local()
     ensures names { NamesAreLocal }
     ensures files { FilesAreLocal }
@@ -70,8 +70,8 @@ pub fn what_never_takes_memory()
 {}
 
 /// Contents and replies name only bricks of the volume that the brick knows: a new brick's do, and
-/// so it stays by each request that may be sent to it, when a client has died or all are new, when a
-/// value is set from outside, and when the volume has grown.
+/// so it stays by each request that may be sent to it, when a client has died or all are new, when
+/// a value is set from outside, and when the volume has grown.
 pub fn only_bricks_of_the_volume_are_named()
     ensures rows { RowsStayWithin }
     ensures replies { RepliesAreWithin }

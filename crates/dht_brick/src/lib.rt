@@ -1,5 +1,5 @@
-//! A brick: what it contains, what each request does to it, and the journal of its requests. A brick
-//! is a trait here; other crates keep what it contains.
+//! A brick: what it contains, what each request does to it, and the journal of its requests. A
+//! brick is a trait here; other crates keep what it contains.
 #![tactic(auto)]
 
 pub mod brick;

@@ -177,8 +177,8 @@ pub struct SlotShown {
 pub enum Why {
     /// It has no record of the directory.
     Nodir,
-    /// The slot, or a file record that the request names, is not as it has to be. The slot's parts are
-    /// shown.
+    /// The slot, or a file record that the request names, is not as it has to be. The slot's parts
+    /// are shown.
     Slot(SlotShown),
     /// Something stands in the directory.
     NotEmpty,

@@ -20,8 +20,8 @@ use dht_types::names::Name;
 pub enum NameRequest {
     /// What stands at a name of a directory.
     Look(Gfid, Name),
-    /// Names of a directory above this one, or from the start: those that are a directory or a file,
-    /// or may become one.
+    /// Names of a directory above this one, or from the start: those that are a directory or a
+    /// file, or may become one.
     Page(Gfid, Option<Name>),
     /// The record of a directory.
     Dirinfo(Gfid),
@@ -76,8 +76,8 @@ pub enum Change {
     Cut(u64),
 }
 
-/// A request about a file's record, which is named first. What it does in each state of the record is
-/// a row of dht_guard's table.
+/// A request about a file's record, which is named first. What it does in each state of the record
+/// is a row of dht_guard's table.
 #[derive(Drop)]
 pub enum FileRequest {
     /// Bytes from an offset on, at most so many and none past the end.
@@ -113,8 +113,8 @@ pub enum FileRequest {
     ClearDirty(Gfid),
     /// Gives the copy up, and leaves a pointer to its source.
     DropStandby(Gfid),
-    /// Gives the file up to the brick to which it was copied: at its name, which is given, a linkto to
-    /// that brick is left, and of its record a pointer.
+    /// Gives the file up to the brick to which it was copied: at its name, which is given, a linkto
+    /// to that brick is left, and of its record a pointer.
     Demote(Gfid, Gfid, Name),
     /// Makes the copy of this hop the file, at its name.
     Promote(Gfid, u64),
@@ -157,8 +157,8 @@ impl Request {
         }
     }
 
-    /// The slot, lock, directory or file that it names. Where it names no name the name is empty, and
-    /// where it names nothing the gfid is 0.
+    /// The slot, lock, directory or file that it names. Where it names no name the name is empty,
+    /// and where it names nothing the gfid is 0.
     pub fn names(&self) -> (Gfid, Name)
         ensures { result ≡ named self.now }
     {

@@ -40,7 +40,8 @@ pub trait Slots {
     fn put_copy(&mut self, key: &EntryKey, file: Gfid) -> Result<(), AllocError>
         ensures ok { OnOk result (tables self.new ≡ record (tables self.old) {
           slots = put_slot (tables self.old).slots (entry_at key.now)
-              (with_standby (slot_in (tables self.old).slots (entry_at key.now)) (Standby.Copy file));
+              (with_standby (slot_in (tables self.old).slots (entry_at key.now))
+              (Standby.Copy file));
         }) }
         ensures err { OnErr result (tables self.new ≡ tables self.old) };
 
@@ -61,13 +62,14 @@ pub trait Slots {
               (Main.Linkto (linkto_value (tables self.old).bricks brick.0)));
         } };
 
-    /// The name, where the copy of this file stands, is this file's from now on, and no standby is at
-    /// it. It takes no memory.
+    /// The name, where the copy of this file stands, is this file's from now on, and no standby is
+    /// at it. It takes no memory.
     fn put_file(&mut self, key: &EntryKey, file: Gfid)
         requires there { is_bare (slot_in (tables self.old).slots (entry_at key.now)) ≡ false }
         requires copy { is_copy file (slot_in (tables self.old).slots (entry_at key.now)).standby
             ≡ true }
         ensures { tables self.new ≡ record (tables self.old) {
-          slots = put_slot (tables self.old).slots (entry_at key.now) (with_main bare (Main.File file None));
+          slots = put_slot (tables self.old).slots (entry_at key.now)
+              (with_main bare (Main.File file None));
         } };
 }

@@ -54,8 +54,8 @@ pub struct Case<'a> {
     journals: Vec<&'a str>,
 }
 
-/// Leaves a line out, puts another in its place, or adds one before it, if the text says so and there
-/// is such a line.
+/// Leaves a line out, puts another in its place, or adds one before it, if the text says so and
+/// there is such a line.
 fn edit<'a>(lines: &mut Vec<&'a str>, text: &'a str) -> Result<bool, AllocError> {
     let Some((verb, rest)) = text.split_once(' ') else {
         return Ok(false);

@@ -97,8 +97,8 @@ fn is_there(past: &[Line], brick: BrickNo) -> bool {
     u64::from(brick.0) < bricks(past)
 }
 
-/// Whether a brick may reply so. It is down exactly where the lines say so, but it carries out every
-/// unlock; it does not fail; and that a lock waits is told by another line.
+/// Whether a brick may reply so. It is down exactly where the lines say so, but it carries out
+/// every unlock; it does not fail; and that a lock waits is told by another line.
 fn may_reply(past: &[Line], brick: BrickNo, kind: RequestKind, reply: ReplyKind) -> bool {
     let may_be = match (kind, reply) {
         (_, ReplyKind::Wait | ReplyKind::Failed) => false,
@@ -183,9 +183,9 @@ fn refusal_at_start(past: &[Line], call: &Call<Gfid>) -> Option<Errno> {
     refusal_at_once(call).or(is_nowhere)
 }
 
-/// Whether a call may answer so directly under its call line, of this number: with the refusal of one
-/// that is refused at the start, which holds at the call line if it is that of the directory, and at
-/// no line else; and a call that is not refused only that it had no memory to begin.
+/// Whether a call may answer so directly under its call line, of this number: with the refusal of
+/// one that is refused at the start, which holds at the call line if it is that of the directory,
+/// and at no line else; and a call that is not refused only that it had no memory to begin.
 fn may_begin_with(
     past: &[Line],
     call: &Call<Gfid>,
@@ -203,8 +203,8 @@ fn may_begin_with(
     }
 }
 
-/// Whether all lines that have to stand under the head line that came last are there: the answer of a
-/// call that is refused at the start.
+/// Whether all lines that have to stand under the head line that came last are there: the answer of
+/// a call that is refused at the start.
 pub fn is_whole(past: &[Line]) -> bool {
     match last_block(past) {
         Some((Line::Called(_, _, call), _, under)) => {

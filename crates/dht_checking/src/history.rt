@@ -44,7 +44,8 @@ pub struct Owed {
     pub request: RequestKind,
 }
 
-/// Whether a request changes the tree on whichever brick it was carried out, where this was the reply.
+/// Whether a request changes the tree on whichever brick it was carried out, where this was the
+/// reply.
 pub fn is_change(request: RequestKind, reply: ReplyKind) -> bool {
     let changes = request == RequestKind::Create || request == RequestKind::Unlink;
     changes && reply == ReplyKind::Ok

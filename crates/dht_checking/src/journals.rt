@@ -82,8 +82,8 @@ fn changes_at(past: &[Line], brick: BrickNo) -> usize {
     count
 }
 
-/// The entry of the request above a tree line: of those that change the tree on any brick the next that
-/// did so, and else the last that the brick served.
+/// The entry of the request above a tree line: of those that change the tree on any brick the next
+/// that did so, and else the last that the brick served.
 fn entry_of_tree(past: &[Line], entries: &[Entry]) -> Option<Entry> {
     if let Some(owed) = line_owed(past) {
         let number = changes_at(past, owed.brick);
@@ -94,7 +94,8 @@ fn entry_of_tree(past: &[Line], entries: &[Entry]) -> Option<Entry> {
     entry_at(entries, due.brick, last, Among::All)
 }
 
-/// Whether the entry that a line tells of is of this call, and tells of this request and this reply.
+/// Whether the entry that a line tells of is of this call, and tells of this request and this
+/// reply.
 fn is_entry(
     entry: Option<Entry>,
     call: CallNo,

@@ -1,8 +1,8 @@
-//! dht_checking: a second reading of the definitions of right transcripts. It goes through all lines
-//! of a transcript for each thing that the definitions `Legal`, `ComesFrom`, `InTime` and `Logged`
-//! speak of, and names the first line that is wrong and the definition that forbids it. Each
-//! definition is one function, written from the definition and not from the program that prints
-//! transcripts. That they are the same is not proved.
+//! dht_checking: a second reading of the definitions of right transcripts. It goes through all
+//! lines of a transcript for each thing that the definitions `Legal`, `ComesFrom`, `InTime` and
+//! `Logged` speak of, and names the first line that is wrong and the definition that forbids it.
+//! Each definition is one function, written from the definition and not from the program that
+//! prints transcripts. That they are the same is not proved.
 //!
 //! The standard input has blocks of lines, with an empty line between two of them. A line of the
 //! standard output tells what comes of each block but the remarks.

@@ -1,5 +1,5 @@
-//! The lines of schedules, transcripts and journals, read. What is not spelled as it is printed is no
-//! line.
+//! The lines of schedules, transcripts and journals, read. What is not spelled as it is printed is
+//! no line.
 
 use crate::journals::Entry;
 use crate::kinds::{CAUSES, ERRORS, REPLIES, REQUESTS, meaning};
@@ -104,8 +104,8 @@ fn directory(word: &str) -> Option<Directory> {
     }
 }
 
-/// Whether bricks of these weights make a volume: there are not too many, none is too heavy, and not
-/// all are without weight.
+/// Whether bricks of these weights make a volume: there are not too many, none is too heavy, and
+/// not all are without weight.
 fn is_volume(weights: &[u16]) -> bool {
     let mut has_weight = false;
     for weight in weights {

@@ -1,5 +1,5 @@
-//! The trees that the tree lines of a transcript make, and what they say to calls. Each thing is found
-//! by looking through the lines.
+//! The trees that the tree lines of a transcript make, and what they say to calls. Each thing is
+//! found by looking through the lines.
 
 use dht_types::calls::{Answer, Call, TreeStep};
 use dht_types::errors::Errno;

@@ -215,8 +215,8 @@ claimed_by b q = no_claim
 abbrev pub first_claim : Ask → Claim
 first_claim a = claimed_by a.brick.0 a.request
 
--- how many requests a lookup of a name sends at most, over so many bricks, by a client that knows the
--- layout or does not
+-- how many requests a lookup of a name sends at most, over so
+-- many bricks, by a client that knows the layout or does not
 abbrev pub most_sought : Bool → ℕ → ℕ
 most_sought true n = n + 7
 most_sought false n = 2 * n + 7

@@ -1,5 +1,5 @@
--- Where a program is: where its call is, and which call that is. These do not unfold by themselves, so
--- that no proof above looks into a call.
+-- Where a program is: where its call is, and which call that is. These
+-- do not unfold by themselves, so that no proof above looks into a call.
 use Rattle.std.specs.Prelude.{ℕ, ◌≡◌, Bool, true, false, Option, List}
 use Rattle.dht_types.specs.declared.calls.Call.TheVariants as call
 use Rattle.dht_types.specs.declared.errors.Errno.{Errno}
@@ -97,7 +97,8 @@ program_way m s = IsNoLookup s
 abbrev pub on_way : Program → Stage
 on_way p = as_part (program_stage p) 0 (λ s. program_way p s)
 
--- it stays on its way, and in the end it has found a file that is placed in time, if it was a first lookup
+-- it stays on its way, and in the end it has found a
+-- file that is placed in time, if it was a first lookup
 abbrev pub KeepsWay : Program → Reply → ℕ → Turn Program Ended → Type 0
 KeepsWay p r at turn =
     (s t : Scene) → Served (program_stage p) r at s t → program_way p s

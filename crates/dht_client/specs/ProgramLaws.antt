@@ -75,7 +75,9 @@ program_stable (Removing m) s t h o = beside_stable (rmdir_stage m) (rmdir_stabl
 program_stable (Healing m) s t h o = call_stable m s t h o
 
 -- what others may do leaves its way
-pub program_way_stable : (m : Program) (s t : Scene) → program_way m s → Rely s t → t.mine.steps ≡ s.mine.steps → program_way m t
+pub program_way_stable :
+    (m : Program) (s t : Scene) → program_way m s → Rely s t → t.mine.steps ≡ s.mine.steps
+    → program_way m t
 unfolding program_way
 program_way_stable (LookingUp m) s t h o steps = way_stable m s t h o steps
 program_way_stable (Creating m) s t h o steps = still_no_lookup s t h o
@@ -101,7 +103,8 @@ create_goes_on (create.Sweeping m x l h) = omega arith
 create_goes_on (create.Creating x l h) = omega arith
 create_goes_on (create.Ending c learned) = closing_goes_on c
 
-more_follow : (learned : Option (List (Option Range))) (bricks : ℕ) → 0 < after_section learned bricks
+more_follow :
+    (learned : Option (List (Option Range))) (bricks : ℕ) → 0 < after_section learned bricks
 more_follow None bricks = omega arith
 more_follow (Some layout) bricks = omega arith
 

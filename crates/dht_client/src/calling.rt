@@ -241,7 +241,8 @@ impl Caller for Client {
         ensures busy { client_is_busy self.new ≡ is_ok result }
         ensures copy { OnOk result ((client_stage self.new).claims.copy ≡ None) }
         ensures knows { OnOk result ((s : Scene)
-            → Begins (client_number self.old) (client_is_new self.old) weights.now run call what.now s
+            → Begins (client_number self.old) (client_is_new self.old) weights.now run call
+            what.now s
             → (client_stage self.new).knows s) }
         ensures variant { OnOk result ((client_stage self.new).variant
             ≤ cost (length weights.now) what.now) }

@@ -13,14 +13,18 @@ from_brick bricks copies home b = first_copy copies home b (bricks - b)
 
 -- ---- brick by brick
 
-pub copy_here : (bricks : ℕ) (copies : List Bool) (home b : ℕ) → b < bricks → is_to_copy copies home b ≡ true → from_brick bricks copies home b ≡ Some (record { 0 = b })
+pub copy_here :
+    (bricks : ℕ) (copies : List Bool) (home b : ℕ) → b < bricks → is_to_copy copies home b ≡ true
+    → from_brick bricks copies home b ≡ Some (record { 0 = b })
 unfolding first_copy
 copy_here bricks copies home b l e =
     let n : bricks - b ≡ suc (bricks - (b + 1)) = omega arith in
     ap (first_copy copies home b) n
     ∙ ap (λ (v : Bool). if v then Some (record { 0 = b }) else first_copy copies home (suc b) (bricks - (b + 1))) e
 
-pub copy_above : (bricks : ℕ) (copies : List Bool) (home b : ℕ) → b < bricks → is_to_copy copies home b ≡ false → from_brick bricks copies home b ≡ from_brick bricks copies home (b + 1)
+pub copy_above :
+    (bricks : ℕ) (copies : List Bool) (home b : ℕ) → b < bricks → is_to_copy copies home b ≡ false
+    → from_brick bricks copies home b ≡ from_brick bricks copies home (b + 1)
 unfolding first_copy
 copy_above bricks copies home b l e =
     let n : bricks - b ≡ suc (bricks - (b + 1)) = omega arith in
@@ -29,7 +33,9 @@ copy_above bricks copies home b l e =
     ∙ (ap (λ (v : Bool). if v then Some (record { 0 = b }) else first_copy copies home (suc b) (bricks - (b + 1))) e
     ∙ ap (λ (i : ℕ). first_copy copies home i (bricks - (b + 1))) q)
 
-pub copy_past : (bricks : ℕ) (copies : List Bool) (home b : ℕ) → bricks ≤ b → from_brick bricks copies home b ≡ None
+pub copy_past :
+    (bricks : ℕ) (copies : List Bool) (home b : ℕ) → bricks ≤ b
+    → from_brick bricks copies home b ≡ None
 unfolding first_copy
 copy_past bricks copies home b l = (let n : bricks - b ≡ 0 = omega arith in ap (first_copy copies home b) n)
 
@@ -57,7 +63,9 @@ other false b e = absurd (let z : false ≡ true = e in cc)
 apart : (b home : ℕ) → not (nat_eq b home) ≡ true → b ≢ home
 apart b home e q = absurd (let z : false ≡ true = sym (ap not ((exact_nat b home).1 q)) ∙ e in cc)
 
-found_more : (copies : List Bool) (home from limit : ℕ) (o : Option BrickNo) → Finds copies home (suc from) limit o → Finds copies home from limit o
+found_more :
+    (copies : List Bool) (home from limit : ℕ) (o : Option BrickNo)
+    → Finds copies home (suc from) limit o → Finds copies home from limit o
 found_more copies home from limit None h = tt
 found_more copies home from limit (Some b) h = record {
   above = let a = h.above in omega arith;
@@ -66,7 +74,9 @@ found_more copies home from limit (Some b) h = record {
   away = h.away;
 }
 
-finds : (copies : List Bool) (home from more : ℕ) → Finds copies home from (from + more) (first_copy copies home from more)
+finds :
+    (copies : List Bool) (home from more : ℕ)
+    → Finds copies home from (from + more) (first_copy copies home from more)
 unfolding first_copy
 finds copies home from zero = tt
 finds copies home from (suc more) = by (is_to_copy copies home from) refl (subst (λ (n : ℕ). Finds copies home (suc from) n (first_copy copies home (suc from) more)) (let q : suc from + more ≡ from + suc more = omega arith in q) (finds copies home (suc from) more))
@@ -75,5 +85,7 @@ finds copies home from (suc more) = by (is_to_copy copies home from) refl (subst
     by true e h = record { above = omega arith; below = omega arith; copied = marked _ _ e; away = apart from home (other _ _ e) }
     by false e h = found_more copies home from (from + suc more) (first_copy copies home (suc from) more) h
 
-pub finds_copy : (x : NewDir) (h : Held) (from : ℕ) → from ≤ x.target.location.bricks → Finds (copies_of x.target h) x.home.0 from x.target.location.bricks (next_copy x h from)
+pub finds_copy :
+    (x : NewDir) (h : Held) (from : ℕ) → from ≤ x.target.location.bricks
+    → Finds (copies_of x.target h) x.home.0 from x.target.location.bricks (next_copy x h from)
 finds_copy x h from l = subst (λ (n : ℕ). Finds (copies_of x.target h) x.home.0 from n (next_copy x h from)) (let q : from + (x.target.location.bricks - from) ≡ x.target.location.bricks = omega arith in q) (finds (copies_of x.target h) x.home.0 from (x.target.location.bricks - from))

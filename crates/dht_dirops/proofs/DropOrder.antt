@@ -10,14 +10,16 @@ use Rattle.dht_section.proofs.EarlyLaws.{nat_cases}
 use Rattle.dht_dirops.specs.Rmdir.{IsDropped, drop_at, drop_from, drop_next, drops_left}
 use Rattle.dht_dirops.specs.declared.rmdir.Removal.{Removal}
 
--- which brick is asked from one on: that one, if it is not the home; the one after it, if it is; or the
--- home, where no other brick is left
+-- which brick is asked from one on: that one, if it is not the home;
+-- the one after it, if it is; or the home, where no other brick is left
 data From (bricks last b k : ℕ) : Type 0 where
   Here : b < bricks → b ≢ last → k ≡ b → From bricks last b k
   After : b ≡ last → b + 1 < bricks → k ≡ b + 1 → From bricks last b k
   Last : ((i : ℕ) → i ≢ last → i < bricks → i < b) → k ≡ last → From bricks last b k
 
-no_other : (bricks last b : ℕ) → (b ≢ last → bricks ≤ b) → bricks ≤ b + 1 → (i : ℕ) → i ≢ last → i < bricks → i < b
+no_other :
+    (bricks last b : ℕ) → (b ≢ last → bricks ≤ b) → bricks ≤ b + 1 → (i : ℕ) → i ≢ last → i < bricks
+    → i < b
 no_other bricks last b full less i ne l = elim (nat_cases i b) [
   | inl e ↦ (let f = full (λ q. ne (e ∙ q)) in omega arith)
   | inr e ↦ omega arith
@@ -54,7 +56,10 @@ from_within bricks last b k l (After q w e) = omega arith
 from_within bricks last b k l (Last none e) = omega arith
 
 -- and before it no brick but the home has a copy, if none before the first one had
-from_dropped : (bricks last b k : ℕ) (on : ℕ → Bool) → ((i : ℕ) → bricks ≤ i → on i ≡ false) → ((i : ℕ) → i ≢ last → i < b → on i ≡ false) → From bricks last b k → (i : ℕ) → i ≢ last → (i < k) ⊎ (k ≡ last) → on i ≡ false
+from_dropped :
+    (bricks last b k : ℕ) (on : ℕ → Bool) → ((i : ℕ) → bricks ≤ i → on i ≡ false)
+    → ((i : ℕ) → i ≢ last → i < b → on i ≡ false) → From bricks last b k → (i : ℕ) → i ≢ last
+    → (i < k) ⊎ (k ≡ last) → on i ≡ false
 from_dropped bricks last b k on beyond before (Here w ne e) i apart (inl l) = before i apart (omega arith)
 from_dropped bricks last b k on beyond before (Here w ne e) i apart (inr q) = absurd (ne (sym e ∙ q))
 from_dropped bricks last b k on beyond before (After q w e) i apart (inl l) = elim (nat_cases i b) [
@@ -70,10 +75,13 @@ from_dropped bricks last b k on beyond before (Last none e) i apart l = by (nat_
 
 -- ---- the first brick
 
-pub first_within : (x : Removal) → home x.directory < x.location.bricks → (drop_at x 0).0 < x.location.bricks
+pub first_within :
+    (x : Removal) → home x.directory < x.location.bricks → (drop_at x 0).0 < x.location.bricks
 first_within x l = from_within x.location.bricks (home x.directory) 0 _ l (from_is x.location.bricks (home x.directory) 0)
 
-pub first_dropped : (x : Removal) (on : ℕ → Bool) → ((i : ℕ) → x.location.bricks ≤ i → on i ≡ false) → IsDropped x.directory (drop_at x 0) on
+pub first_dropped :
+    (x : Removal) (on : ℕ → Bool) → ((i : ℕ) → x.location.bricks ≤ i → on i ≡ false)
+    → IsDropped x.directory (drop_at x 0) on
 first_dropped x on beyond = from_dropped x.location.bricks (home x.directory) 0 _ on beyond (λ i ne l. absurd (omega arith)) (from_is x.location.bricks (home x.directory) 0)
 
 pub few_left : (x : Removal) (b : BrickNo) → drops_left x b ≤ x.location.bricks
@@ -85,7 +93,10 @@ few_left x b = by (nat_eq b.0 (home x.directory))
 
 -- ---- the brick after one that is not the home
 
-up_to : (x : Removal) (b : BrickNo) (on : ℕ → Bool) → b.0 ≢ home x.directory → IsDropped x.directory b on → on b.0 ≡ false → (i : ℕ) → i ≢ home x.directory → i < b.0 + 1 → on i ≡ false
+up_to :
+    (x : Removal) (b : BrickNo) (on : ℕ → Bool) → b.0 ≢ home x.directory
+    → IsDropped x.directory b on → on b.0 ≡ false → (i : ℕ) → i ≢ home x.directory → i < b.0 + 1
+    → on i ≡ false
 up_to x b on ne before off i apart l = elim (nat_cases i b.0) [
   | inl e ↦ ap on e ∙ off
   | inr q ↦ before i apart (inl (omega arith))
@@ -103,14 +114,19 @@ next_is x b = by (nat_le (x.location.bricks - b.0) 1) refl
     by true e = Ends (grind (arith, nat_tests, e)) refl
     by false e = Goes (from_is x.location.bricks (home x.directory) (b.0 + 1))
 
-pub next_within : (x : Removal) (b : BrickNo) → home x.directory < x.location.bricks → (drop_next x b).0 < x.location.bricks
+pub next_within :
+    (x : Removal) (b : BrickNo) → home x.directory < x.location.bricks
+    → (drop_next x b).0 < x.location.bricks
 next_within x b l = by (drop_next x b) (next_is x b)
   where
     by : (k : BrickNo) → Next x b k → k.0 < x.location.bricks
     by k (Ends w e) = omega arith
     by k (Goes f) = from_within x.location.bricks (home x.directory) (b.0 + 1) k.0 l f
 
-pub next_dropped : (x : Removal) (b : BrickNo) (on : ℕ → Bool) → b.0 ≢ home x.directory → ((i : ℕ) → x.location.bricks ≤ i → on i ≡ false) → IsDropped x.directory b on → on b.0 ≡ false → IsDropped x.directory (drop_next x b) on
+pub next_dropped :
+    (x : Removal) (b : BrickNo) (on : ℕ → Bool) → b.0 ≢ home x.directory
+    → ((i : ℕ) → x.location.bricks ≤ i → on i ≡ false) → IsDropped x.directory b on → on b.0 ≡ false
+    → IsDropped x.directory (drop_next x b) on
 next_dropped x b on ne beyond before off = by (drop_next x b) (next_is x b)
   where
     by : (k : BrickNo) → Next x b k → IsDropped x.directory k on
@@ -132,10 +148,13 @@ left_most x k = by (nat_eq k.0 (home x.directory))
     by true = omega arith
     by false = omega arith
 
-pub left_away : (x : Removal) (b : BrickNo) → b.0 ≢ home x.directory → drops_left x b ≡ x.location.bricks - b.0
+pub left_away :
+    (x : Removal) (b : BrickNo) → b.0 ≢ home x.directory → drops_left x b ≡ x.location.bricks - b.0
 left_away x b ne = ap (λ (v : Bool). if v then 0 else x.location.bricks - b.0) (false_from_ne_true (nat_eq b.0 (home x.directory)) (λ q. ne ((exact_nat b.0 (home x.directory)).0 q)))
 
-pub next_nearer : (x : Removal) (b : BrickNo) → b.0 < x.location.bricks → b.0 ≢ home x.directory → drops_left x (drop_next x b) < drops_left x b
+pub next_nearer :
+    (x : Removal) (b : BrickNo) → b.0 < x.location.bricks → b.0 ≢ home x.directory
+    → drops_left x (drop_next x b) < drops_left x b
 next_nearer x b l ne =
     let is = left_away x b ne in
     let less = by (drop_next x b) (next_is x b) in

@@ -1,4 +1,5 @@
--- The bricks are asked, one after the other, to drop their copies of the directory, and its home last.
+-- The bricks are asked, one after the other, to drop
+-- their copies of the directory, and its home last.
 use Rattle.std.proofs.Common.{◌≡◌, ◌≢◌, ◌<◌, ℕ, Bool, true, false, refl, sym, ◌∙◌, ap, subst, inl, inr, arith}
 use Rattle.std.specs.Prelude.{Option, Some, None, is_some, nat_eq, if◌then◌else◌}
 use Rattle.std.proofs.lemmas.Bool.{false_from_ne_true}
@@ -58,11 +59,15 @@ use Rattle.dht_dirops.specs.declared.rmdir.Rmdir.TheVariants.{Dropping}
 -- ---- what a brick has
 
 -- nothing stands in the directory there
-pub unoccupied : (s : Scene) (g : Gfid) (b : ℕ) → b < s.disk.count → IsBare g s → is_occupied (s.disk.brick b).store.slots g ≡ false
+pub unoccupied :
+    (s : Scene) (g : Gfid) (b : ℕ) → b < s.disk.count → IsBare g s
+    → is_occupied (s.disk.brick b).store.slots g ≡ false
 unoccupied s g b l h = not_occupied (s.disk.brick b).store.slots g (λ n. bare_hidden (slot_at s.disk b (g, n)) ((h n).has b l))
 
 -- where it has a copy, the name's slot is the directory's
-copied_slot : (s : Scene) (e : Entry) (g : Gfid) (on : ℕ → Bool) (b : ℕ) → b < s.disk.count → NameStands s e (Folder g on) → on b ≡ true → slot_at s.disk b e ≡ folder g
+copied_slot :
+    (s : Scene) (e : Entry) (g : Gfid) (on : ℕ → Bool) (b : ℕ) → b < s.disk.count
+    → NameStands s e (Folder g on) → on b ≡ true → slot_at s.disk b e ≡ folder g
 copied_slot s e g on b l h there = core_folder (slot_at s.disk b e) g (h.has b l ∙ ap (λ (v : Bool). let p : Slot = record { main = when_on v (main.Dir g); standby = None } in p) there)
 
 -- and elsewhere it is not
@@ -72,11 +77,15 @@ not_its g (Some (main.Dir h)) e = absurd (let z : Some (main.Dir h) ≡ None = e
 not_its g (Some (main.File f over)) e = refl
 not_its g (Some (main.Linkto v)) e = refl
 
-uncopied_slot : (s : Scene) (e : Entry) (g : Gfid) (on : ℕ → Bool) (b : ℕ) → b < s.disk.count → NameStands s e (Folder g on) → on b ≡ false → is_dir g (slot_at s.disk b e).main ≡ false
+uncopied_slot :
+    (s : Scene) (e : Entry) (g : Gfid) (on : ℕ → Bool) (b : ℕ) → b < s.disk.count
+    → NameStands s e (Folder g on) → on b ≡ false → is_dir g (slot_at s.disk b e).main ≡ false
 uncopied_slot s e g on b l h none = not_its g (slot_at s.disk b e).main (ap (λ (p : Slot). p.main) (h.has b l) ∙ ap (λ (v : Bool). when_on v (main.Dir g)) none)
 
 -- the brick of a slot that is a directory's has the directory in which it stands
-copied_housed : (s : Scene) (e : Entry) (g : Gfid) (b : ℕ) → Sound s → b < s.disk.count → slot_at s.disk b e ≡ folder g → is_some (dir_at s.disk b e.0) ≡ true
+copied_housed :
+    (s : Scene) (e : Entry) (g : Gfid) (b : ℕ) → Sound s → b < s.disk.count
+    → slot_at s.disk b e ≡ folder g → is_some (dir_at s.disk b e.0) ≡ true
 copied_housed s e g b sound l is = sound.kept.things.housed e b l (λ z. let y : Some (main.Dir g) ≡ None = ap (λ (p : Slot). p.main) (sym is ∙ z) in cc)
 
 -- ---- a set of bricks without one

@@ -74,7 +74,9 @@ abbrev shown_in : Gfid → Entry × Slot → Bool
 shown_in g x = same_gfid g x.0.0 && is_visible x.1
 
 -- where none is visible, none is at any name
-seek : (g : Gfid) (n : List ℕ) (es : List (Entry × Slot)) → list_any (shown_in g) es ≡ false → is_visible (unwrap_or (find entry_cmp (g, n) es) bare) ≡ false
+seek :
+    (g : Gfid) (n : List ℕ) (es : List (Entry × Slot)) → list_any (shown_in g) es ≡ false
+    → is_visible (unwrap_or (find entry_cmp (g, n) es) bare) ≡ false
 seek g n [] h = refl
 seek g n (x ∷ es) h = by (eq_by_cmp entry_cmp (g, n) x.0) refl (seek g n es (or_false (shown_in g x) (list_any (shown_in g) es) h).1)
   where
@@ -84,12 +86,16 @@ seek g n (x ∷ es) h = by (eq_by_cmp entry_cmp (g, n) x.0) refl (seek g n es (o
         and_false (same_gfid g x.0.0) (is_visible x.1) ((exact_gfid g x.0.0).1 (ap (λ (y : Entry). y.0) same)) (or_false (shown_in g x) (list_any (shown_in g) es) h).0
     by false k rest = rest
 
-pub none_visible : (slots : Slots) (g : Gfid) (n : List ℕ) → is_occupied slots g ≡ false → is_visible (slot_in slots (g, n)) ≡ false
+pub none_visible :
+    (slots : Slots) (g : Gfid) (n : List ℕ) → is_occupied slots g ≡ false
+    → is_visible (slot_in slots (g, n)) ≡ false
 unfolding is_occupied
 none_visible slots g n h = ap (λ (o : Option Slot). is_visible (unwrap_or o bare)) (get-entries slots (g, n)) ∙ seek g n (entries slots) h
 
 -- and the other way round: each entry is found at its name, as names rise
-below_none : (k q : Entry) (es : List (Entry × Slot)) → entry_cmp q k ≡ Equal → T (below_all entry_cmp k es) → find entry_cmp q es ≡ None
+below_none :
+    (k q : Entry) (es : List (Entry × Slot)) → entry_cmp q k ≡ Equal → T (below_all entry_cmp k es)
+    → find entry_cmp q es ≡ None
 below_none k q [] t h = refl
 below_none k q (e ∷ es) t h =
     let below = split (is_lt (entry_cmp k e.0)) (below_all entry_cmp k es) h in
@@ -99,14 +105,18 @@ below_none k q (e ∷ es) t h =
 abbrev NoneFound : Gfid → List (Entry × Slot) → Type 0
 NoneFound g es = (n : List ℕ) → is_visible (unwrap_or (find entry_cmp (g, n) es) bare) ≡ false
 
-rest_found : (g : Gfid) (e : Entry × Slot) (es : List (Entry × Slot)) → T (below_all entry_cmp e.0 es) → NoneFound g (e ∷ es) → NoneFound g es
+rest_found :
+    (g : Gfid) (e : Entry × Slot) (es : List (Entry × Slot)) → T (below_all entry_cmp e.0 es)
+    → NoneFound g (e ∷ es) → NoneFound g es
 rest_found g e es below h n = by (eq_by_cmp entry_cmp (g, n) e.0) refl (h n)
   where
     by : (v : Bool) → eq_by_cmp entry_cmp (g, n) e.0 ≡ v → is_visible (unwrap_or (cond v (Some e.1) (find entry_cmp (g, n) es)) bare) ≡ false → is_visible (unwrap_or (find entry_cmp (g, n) es) bare) ≡ false
     by true k z = ap (λ (o : Option Slot). is_visible (unwrap_or o bare)) (below_none e.0 (g, n) es ((Equal-is (entry_cmp (g, n) e.0)).0 k) below)
     by false k z = z
 
-first_hidden : (g : Gfid) (e : Entry × Slot) (es : List (Entry × Slot)) → NoneFound g (e ∷ es) → shown_in g e ≡ false
+first_hidden :
+    (g : Gfid) (e : Entry × Slot) (es : List (Entry × Slot)) → NoneFound g (e ∷ es)
+    → shown_in g e ≡ false
 first_hidden g e es h = by (same_gfid g e.0.0) refl
   where
     found : is_visible (unwrap_or (cond (is_eq (entry_cmp e.0 e.0)) (Some e.1) (find entry_cmp e.0 es)) bare) ≡ is_visible e.1
@@ -116,12 +126,16 @@ first_hidden g e es h = by (same_gfid g e.0.0) refl
     by true k = sym found ∙ subst (λ (d : Gfid). is_visible (unwrap_or (find entry_cmp (d, e.0.1) (e ∷ es)) bare) ≡ false) ((exact_gfid g e.0.0).0 k) (h e.0.1)
     by false k = refl
 
-none_listed : (g : Gfid) (es : List (Entry × Slot)) → T (is_sorted entry_cmp es) → NoneFound g es → list_any (shown_in g) es ≡ false
+none_listed :
+    (g : Gfid) (es : List (Entry × Slot)) → T (is_sorted entry_cmp es) → NoneFound g es
+    → list_any (shown_in g) es ≡ false
 none_listed g [] sorted h = refl
 none_listed g (e ∷ es) sorted h =
     let below = split (below_all entry_cmp e.0 es) (is_sorted entry_cmp es) sorted in
     no_or (shown_in g e) (list_any (shown_in g) es) (first_hidden g e es h) (none_listed g es below.1 (rest_found g e es below.0 h))
 
-pub not_occupied : (slots : Slots) (g : Gfid) → ((n : List ℕ) → is_visible (slot_in slots (g, n)) ≡ false) → is_occupied slots g ≡ false
+pub not_occupied :
+    (slots : Slots) (g : Gfid) → ((n : List ℕ) → is_visible (slot_in slots (g, n)) ≡ false)
+    → is_occupied slots g ≡ false
 unfolding is_occupied
 not_occupied slots g h = none_listed g (entries slots) (entries_sorted slots) (λ n. sym (ap (λ (o : Option Slot). is_visible (unwrap_or o bare)) (get-entries slots (g, n))) ∙ h n)

@@ -56,7 +56,11 @@ holds_order : (x : Removal) (h : Held) (s : Scene) → Holds x h s → IsOrdered
 holds_order x h s k = subst IsOrdered (sym k.scope) (pair_ordered x.location.bricks x.location.directory x.directory x.location.name k.removes.apart)
 
 -- the locks are given back, and the answer is right
-pub closed_step : (x : Removal) (h : Held) (m : Rmdir) (f : Finish) (r : Reply) (at : ℕ) (s t : Scene) → (rmdir_stage m).claims ≡ all_claimed h.scope → suc (last_lock h.scope) < (rmdir_stage m).variant → Holds x h s → MayAnswer f t → Served (rmdir_stage m) r at s t → GoesOn (rmdir_stage m) (rmdir_stage (closed x h f)) r t
+pub closed_step :
+    (x : Removal) (h : Held) (m : Rmdir) (f : Finish) (r : Reply) (at : ℕ) (s t : Scene)
+    → (rmdir_stage m).claims ≡ all_claimed h.scope
+    → suc (last_lock h.scope) < (rmdir_stage m).variant → Holds x h s → MayAnswer f t
+    → Served (rmdir_stage m) r at s t → GoesOn (rmdir_stage m) (rmdir_stage (closed x h f)) r t
 closed_step x h m f r at s t claims nearer k earned v =
     let order = holds_order x h s k in
     let some = order.some in
@@ -75,11 +79,16 @@ answered : (o : Option DirRecord) (c : Contents) (g : Gfid) → is_shown (info_r
 answered None c g = refl
 answered (Some y) c g = refl
 
-pub info_told : (x : Removal) (b : BrickNo) (s t : Scene) (r : Reply) → fault_of r ≡ None → Guarantee s (inspect_ask x b) r t → is_shown r ≡ true
+pub info_told :
+    (x : Removal) (b : BrickNo) (s t : Scene) (r : Reply) → fault_of r ≡ None
+    → Guarantee s (inspect_ask x b) r t → is_shown r ≡ true
 info_told x b s t r z m = ap is_shown (row_reply s t (inspect_ask x b) r m z) ∙ answered (dir_at s.disk b.0 x.directory) (s.disk.brick b.0) x.directory
 
 -- a brick that shows no name in the directory has none
-hidden_at : (s : Scene) (g : Gfid) (b : ℕ) (n : List ℕ) (o : Option DirRecord) → Sound s → b < s.disk.count → dir_at s.disk b g ≡ o → shows_name (info_reply o (s.disk.brick b) g) ≡ false → visible (slot_at s.disk b (g, n)).main ≡ None
+hidden_at :
+    (s : Scene) (g : Gfid) (b : ℕ) (n : List ℕ) (o : Option DirRecord) → Sound s → b < s.disk.count
+    → dir_at s.disk b g ≡ o → shows_name (info_reply o (s.disk.brick b) g) ≡ false
+    → visible (slot_at s.disk b (g, n)).main ≡ None
 hidden_at s g b n None sound l e h = ap (λ (p : Slot). visible p.main) (unhoused s (g, n) b sound l e)
 hidden_at s g b n (Some y) sound l e h = hidden_is (slot_at s.disk b (g, n)) (none_visible (s.disk.brick b).store.slots g n h)
 
@@ -89,7 +98,9 @@ what_hidden b (Some (main.Dir g)) e = absurd (let z : Some (main.Dir g) ≡ None
 what_hidden b (Some (main.File f over)) e = absurd (let z : Some (main.File f over) ≡ None = e in cc)
 what_hidden b (Some (main.Linkto v)) e = refl
 
-saw_next : (s : Scene) (e : Entry) (b : BrickNo) → b.0 < s.disk.count → visible (slot_at s.disk b.0 e).main ≡ None → Saw e b.0 Absent s → Saw e (b.0 + 1) Absent s
+saw_next :
+    (s : Scene) (e : Entry) (b : BrickNo) → b.0 < s.disk.count
+    → visible (slot_at s.disk b.0 e).main ≡ None → Saw e b.0 Absent s → Saw e (b.0 + 1) Absent s
 saw_next s e b l hidden h =
     let more = saw_more s e b (slot_at s.disk b.0 e).main 0 h.full Absent l refl h.stands h.shows in
     record {
@@ -99,7 +110,10 @@ saw_next s e b l hidden h =
     }
 
 -- so one brick more showed nothing
-pub nothing_next : (x : Removal) (b : BrickNo) (s t : Scene) (r : Reply) → Sound s → b.0 < s.disk.count → fault_of r ≡ None → shows_name r ≡ false → Guarantee s (inspect_ask x b) r t → ShowNothing x.directory b.0 s → ShowNothing x.directory (b.0 + 1) s
+pub nothing_next :
+    (x : Removal) (b : BrickNo) (s t : Scene) (r : Reply) → Sound s → b.0 < s.disk.count
+    → fault_of r ≡ None → shows_name r ≡ false → Guarantee s (inspect_ask x b) r t
+    → ShowNothing x.directory b.0 s → ShowNothing x.directory (b.0 + 1) s
 nothing_next x b s t r sound l z e m h n =
     saw_next s (x.directory, n) b l
     (hidden_at s x.directory b.0 n (dir_at s.disk b.0 x.directory) sound l refl (sym (ap shows_name (row_reply s t (inspect_ask x b) r m z)) ∙ e))
@@ -113,13 +127,17 @@ all_bare g s h n =
 
 -- ---- a name stands in it
 
-seen_bare : (s : Scene) (e : Entry) (b : ℕ) (full : What) → b < s.disk.count → StandsSeen e full s → None ≡ node_seen full → core (slot_at s.disk b e) ≡ bare
+seen_bare :
+    (s : Scene) (e : Entry) (b : ℕ) (full : What) → b < s.disk.count → StandsSeen e full s
+    → None ≡ node_seen full → core (slot_at s.disk b e) ≡ bare
 seen_bare s e b Absent l k q = k.has b l
 seen_bare s e b (Dir g) l k q = absurd (let z : None ≡ Some (IsDir g) = q in cc)
 seen_bare s e b (File f c links) l k q = absurd (let z : None ≡ Some (IsFile f) = q in cc)
 
 -- a name of which the tree has nothing is bare on each brick
-bare_at : (s : Scene) (e : Entry) (b : ℕ) → Sound s → b < s.disk.count → s.history.tree.names e ≡ None → core (slot_at s.disk b e) ≡ bare
+bare_at :
+    (s : Scene) (e : Entry) (b : ℕ) → Sound s → b < s.disk.count → s.history.tree.names e ≡ None
+    → core (slot_at s.disk b e) ≡ bare
 bare_at s e b sound l none =
     let full = full_of s e sound in
     seen_bare s e b full.0 l full.1 (sym none ∙ node_there s e full.0 full.1)
@@ -129,19 +147,27 @@ nothing_there A None e = refl
 nothing_there A (Some x) e = absurd (let z : false ≡ true = e in cc)
 
 -- so a directory that lists no name is not shown to have one
-shows_none : (s : Scene) (g : Gfid) (b : ℕ) (o : Option DirRecord) → Sound s → b < s.disk.count → s.history.tree.listings g ≡ [] → shows_name (info_reply o (s.disk.brick b) g) ≡ false
+shows_none :
+    (s : Scene) (g : Gfid) (b : ℕ) (o : Option DirRecord) → Sound s → b < s.disk.count
+    → s.history.tree.listings g ≡ [] → shows_name (info_reply o (s.disk.brick b) g) ≡ false
 shows_none s g b None sound l e = refl
 shows_none s g b (Some y) sound l e = not_occupied (s.disk.brick b).store.slots g (λ n. bare_hidden (slot_at s.disk b (g, n)) (bare_at s (g, n) b sound l
     (nothing_there Node (s.history.tree.names (g, n)) (ap (λ (xs : List (List ℕ)). Rattle.dht_types.specs.Tree.lists n xs) (sym e) ∙ sound.kept.tree.listed (g, n)))))
 
-refuses_full : (p : Tree) (d : Gfid) (n : List ℕ) (g y : Gfid) (xs : List (List ℕ)) → p.dirs d ≡ true → p.names (d, n) ≡ Some (IsDir g) → p.listings g ≡ xs → (xs ≡ [] → ⊥) → answer_of (says p (Called d n) y) ≡ Some (Fault Enotempty)
+refuses_full :
+    (p : Tree) (d : Gfid) (n : List ℕ) (g y : Gfid) (xs : List (List ℕ)) → p.dirs d ≡ true
+    → p.names (d, n) ≡ Some (IsDir g) → p.listings g ≡ xs → (xs ≡ [] → ⊥)
+    → answer_of (says p (Called d n) y) ≡ Some (Fault Enotempty)
 refuses_full p d n g y [] e k l some = absurd (some refl)
 refuses_full p d n g y (z ∷ zs) e k l some =
     ap (λ (b : Bool). answer_of (if b then removed p d n (p.names (d, n)) else Refuse Estale)) e
     ∙ (ap (λ (o : Option Node). answer_of (removed p d n o)) k
     ∙ ap (λ (ys : List (List ℕ)). answer_of (removed_dir d n ys)) l)
 
-pub full_earned : (x : Removal) (h : Held) (b : BrickNo) (r : Reply) (at : ℕ) (s t : Scene) → fault_of r ≡ None → shows_name r ≡ true → Holds x h t → b.0 < s.disk.count → Guarantee s (inspect_ask x b) r t → Sound s → Sound t → at ≡ t.history.size → MayAnswer (refused_at Enotempty at) t
+pub full_earned :
+    (x : Removal) (h : Held) (b : BrickNo) (r : Reply) (at : ℕ) (s t : Scene) → fault_of r ≡ None
+    → shows_name r ≡ true → Holds x h t → b.0 < s.disk.count → Guarantee s (inspect_ask x b) r t
+    → Sound s → Sound t → at ≡ t.history.size → MayAnswer (refused_at Enotempty at) t
 full_earned x h b r at s t z e k l m before sound line =
     let begun = sound.begun in
     record {
@@ -167,7 +193,10 @@ full_earned x h b r at s t z e k l m before sound line =
 abbrev Went : Removal → Held → BrickNo → Reply → Scene → Rmdir → Type 0
 Went x h b r t n = GoesOn (rmdir_stage (Inspecting x h b)) (rmdir_stage n) r t
 
-either : (x : Removal) (h : Held) (b : BrickNo) (r : Reply) (t : Scene) (v : Bool) (m n : Rmdir) → (v ≡ true → Went x h b r t m) → (v ≡ false → Went x h b r t n) → Went x h b r t (if v then m else n)
+either :
+    (x : Removal) (h : Held) (b : BrickNo) (r : Reply) (t : Scene) (v : Bool) (m n : Rmdir)
+    → (v ≡ true → Went x h b r t m) → (v ≡ false → Went x h b r t n)
+    → Went x h b r t (if v then m else n)
 either x h b r t true m n f g = f refl
 either x h b r t false m n f g = g refl
 

@@ -42,7 +42,9 @@ use Rattle.dht_section.specs.Section.{begun}
 
 -- ---- its name, where it begins
 
-aimed_location : (l : Location) (p : Prepared) (learned : Option (List (Option Range))) (o : Option ℕ) → lookup_location (aimed_at l p learned o) ≡ l
+aimed_location :
+    (l : Location) (p : Prepared) (learned : Option (List (Option Range))) (o : Option ℕ)
+    → lookup_location (aimed_at l p learned o) ≡ l
 aimed_location l p learned None = refl
 aimed_location l p learned (Some b) = by (nat_lt b l.bricks)
   where
@@ -50,7 +52,9 @@ aimed_location l p learned (Some b) = by (nat_lt b l.bricks)
     by true = refl
     by false = refl
 
-pub with_location : (p : Prepared) (l : Location) (layout learned : Option (List (Option Range))) → lookup_location (lookup_with p l layout learned) ≡ l
+pub with_location :
+    (p : Prepared) (l : Location) (layout learned : Option (List (Option Range)))
+    → lookup_location (lookup_with p l layout learned) ≡ l
 with_location p l None learned = refl
 with_location p l (Some ranges) learned = aimed_location l p learned (holder_in ranges l.name)
 
@@ -72,7 +76,9 @@ goes_on (Ending m x) = omega arith
 abbrev pub NoneAtEnd : Option (List (Option Range)) → Turn Lookup Resolved → Type 0
 NoneAtEnd taught turn = MatchTurn turn (λ n. Unit {0}) (λ d. taught ≡ None)
 
-not_shown : (r : Reply) (e : Errno) (g : Gfid) (b : BrickNo) → fault_of r ≡ Some e → (shows_gone g b r ≡ false) × (is_shown r ≡ false)
+not_shown :
+    (r : Reply) (e : Errno) (g : Gfid) (b : BrickNo) → fault_of r ≡ Some e
+    → (shows_gone g b r ≡ false) × (is_shown r ≡ false)
 not_shown (reply.Ok given) e g b z = absurd (let k : None ≡ Some e = z in cc)
 not_shown (reply.Refused why) e g b z = absurd (let k : None ≡ Some e = z in cc)
 not_shown (reply.Wait holder) e g b z = absurd (let k : None ≡ Some e = z in cc)
@@ -80,12 +86,25 @@ not_shown reply.Down e g b z = (refl, refl)
 not_shown reply.Failed e g b z = (refl, refl)
 not_shown reply.NoMemory e g b z = (refl, refl)
 
-survey_end : (l : Location) (p : Prepared) (b : BrickNo) (ranges : List (Option Range)) (r : Reply) (at : ℕ) (gone shown : Bool) → NoneAtEnd (survey_taught gone shown l b (lengthened ranges (range_shown r))) (if gone then Rattle.dht_resolve.specs.Turns.gone l at None else (if shown then Go (surveyed l p b (lengthened ranges (range_shown r))) else Go (Surveying l p b ranges)))
+survey_end :
+    (l : Location) (p : Prepared) (b : BrickNo) (ranges : List (Option Range)) (r : Reply) (at : ℕ)
+    (gone shown : Bool)
+    → NoneAtEnd (survey_taught gone shown l b (lengthened ranges (range_shown r)))
+    (if gone
+    then Rattle.dht_resolve.specs.Turns.gone l at None
+    else (if shown
+    then Go (surveyed l p b (lengthened ranges (range_shown r)))
+    else Go (Surveying l p b ranges)))
 survey_end l p b ranges r at true shown = refl
 survey_end l p b ranges r at false true = tt
 survey_end l p b ranges r at false false = tt
 
-survey_ended : (l : Location) (p : Prepared) (b : BrickNo) (ranges : List (Option Range)) (r : Reply) (at : ℕ) (o : Option Errno) → fault_of r ≡ o → NoneAtEnd (lookup_taught (Surveying l p b ranges) r) (unless_fault o l None (survey_answered l p b ranges r at))
+survey_ended :
+    (l : Location) (p : Prepared) (b : BrickNo) (ranges : List (Option Range)) (r : Reply) (at : ℕ)
+    (o : Option Errno)
+    → fault_of r ≡ o
+    → NoneAtEnd (lookup_taught (Surveying l p b ranges) r)
+    (unless_fault o l None (survey_answered l p b ranges r at))
 survey_ended l p b ranges r at None z = survey_end l p b ranges r at (shows_gone l.directory b r) (is_shown r)
 survey_ended l p b ranges r at (Some e) z =
     let q = not_shown r e l.directory b z in
@@ -96,13 +115,16 @@ none_at_end : (turn : Turn Lookup Resolved) → NoneAtEnd None turn
 none_at_end (Go m) = tt
 none_at_end (Done d) = refl
 
-section_end : (l : Location) (learned : Option (List (Option Range))) (turn : Turn Section Opened) → NoneAtEnd (turn_layout (entry_at l) turn) (section_turned l turn learned)
+section_end :
+    (l : Location) (learned : Option (List (Option Range))) (turn : Turn Section Opened)
+    → NoneAtEnd (turn_layout (entry_at l) turn) (section_turned l turn learned)
 section_end l learned (Go m) = tt
 section_end l learned (Done (Holding h)) = tt
 section_end l learned (Done (IsGone g at)) = refl
 section_end l learned (Done (IsStopped e)) = refl
 
-pub taught_none : (m : Lookup) (r : Reply) (at : ℕ) → NoneAtEnd (lookup_taught m r) (lookup_after m r at)
+pub taught_none :
+    (m : Lookup) (r : Reply) (at : ℕ) → NoneAtEnd (lookup_taught m r) (lookup_after m r at)
 taught_none (Surveying l p b ranges) r at = survey_ended l p b ranges r at (fault_of r) refl
 taught_none (LookingAtHolder x p) r at = none_at_end (lookup_after (LookingAtHolder x p) r at)
 taught_none (FollowingLinkto x p) r at = none_at_end (lookup_after (FollowingLinkto x p) r at)
@@ -112,25 +134,35 @@ taught_none (Ending m x) r at = none_at_end (release_turned (release_after m) x)
 
 -- ---- what its answers are as those of an rmdir
 
-refused_too : (p : Tree) (d : Gfid) (n : List ℕ) (e : Errno) (v : Bool) (o : Option Node) → answer_of (if v then looked_up o else Refuse Estale) ≡ Some (answer.Fault e) → answer_of (if v then removed p d n o else Refuse Estale) ≡ Some (answer.Fault e)
+refused_too :
+    (p : Tree) (d : Gfid) (n : List ℕ) (e : Errno) (v : Bool) (o : Option Node)
+    → answer_of (if v then looked_up o else Refuse Estale) ≡ Some (answer.Fault e)
+    → answer_of (if v then removed p d n o else Refuse Estale) ≡ Some (answer.Fault e)
 refused_too p d n e true None h = h
 refused_too p d n e true (Some (IsFile f)) h = absurd (let z : Some (answer.File f) ≡ Some (answer.Fault e) = h in cc)
 refused_too p d n e true (Some (IsDir g)) h = absurd (let z : Some (answer.Dir g) ≡ Some (answer.Fault e) = h in cc)
 refused_too p d n e false o h = h
 
-file_refused : (p : Tree) (d : Gfid) (n : List ℕ) (f : Gfid) (v : Bool) (o : Option Node) → answer_of (if v then looked_up o else Refuse Estale) ≡ Some (answer.File f) → answer_of (if v then removed p d n o else Refuse Estale) ≡ Some (answer.Fault Enotdir)
+file_refused :
+    (p : Tree) (d : Gfid) (n : List ℕ) (f : Gfid) (v : Bool) (o : Option Node)
+    → answer_of (if v then looked_up o else Refuse Estale) ≡ Some (answer.File f)
+    → answer_of (if v then removed p d n o else Refuse Estale) ≡ Some (answer.Fault Enotdir)
 file_refused p d n f true None h = absurd (let z : Some (answer.Fault Enoent) ≡ Some (answer.File f) = h in cc)
 file_refused p d n f true (Some (IsFile g)) h = refl
 file_refused p d n f true (Some (IsDir g)) h = absurd (let z : Some (answer.Dir g) ≡ Some (answer.File f) = h in cc)
 file_refused p d n f false o h = absurd (let z : Some (answer.Fault Estale) ≡ Some (answer.File f) = h in cc)
 
-never_done : (v : Bool) (o : Option Node) → answer_of (if v then looked_up o else Refuse Estale) ≡ Some answer.Done → ⊥
+never_done :
+    (v : Bool) (o : Option Node)
+    → answer_of (if v then looked_up o else Refuse Estale) ≡ Some answer.Done → ⊥
 never_done true None h = (let z : Some (answer.Fault Enoent) ≡ Some answer.Done = h in cc)
 never_done true (Some (IsFile g)) h = (let z : Some (answer.File g) ≡ Some answer.Done = h in cc)
 never_done true (Some (IsDir g)) h = (let z : Some (answer.Dir g) ≡ Some answer.Done = h in cc)
 never_done false o h = (let z : Some (answer.Fault Estale) ≡ Some answer.Done = h in cc)
 
-never_made : (f : Gfid) (v : Bool) (o : Option Node) → answer_of (if v then looked_up o else Refuse Estale) ≡ Some (answer.Made f) → ⊥
+never_made :
+    (f : Gfid) (v : Bool) (o : Option Node)
+    → answer_of (if v then looked_up o else Refuse Estale) ≡ Some (answer.Made f) → ⊥
 never_made f true None h = (let z : Some (answer.Fault Enoent) ≡ Some (answer.Made f) = h in cc)
 never_made f true (Some (IsFile g)) h = (let z : Some (answer.File g) ≡ Some (answer.Made f) = h in cc)
 never_made f true (Some (IsDir g)) h = (let z : Some (answer.Dir g) ≡ Some (answer.Made f) = h in cc)

@@ -67,7 +67,8 @@ bare_free : (p : Slot) → core p ≡ bare → is_free p ≡ true
 bare_free p e = ap (λ (v : Bool). v && is_none p.standby) (bare_vacant p.main (ap (λ (x : Slot). x.main) e)) ∙ ap (λ (x : Slot). is_none x.standby) e
 
 -- no directory stands in itself
-above_apart : (t : Scene) (e : Entry) (g : Gfid) → Sound t → t.history.tree.names e ≡ Some (IsDir g) → e.0 ≢ g
+above_apart :
+    (t : Scene) (e : Entry) (g : Gfid) → Sound t → t.history.tree.names e ≡ Some (IsDir g) → e.0 ≢ g
 above_apart t e g sound node same =
     let deeper : depth_of t.history.tree g ≡ depth_of t.history.tree e.0 + 1 = ap depth_in (sound.kept.tree.child e g node).descent in
     let equal : depth_of t.history.tree e.0 ≡ depth_of t.history.tree g = ap (depth_of t.history.tree) same in
@@ -85,14 +86,22 @@ copy_at x b = new_copy (above_of x.target) x.target.location.name x.depth (value
 abbrev Sets : NewDir → ℕ → Scene → Scene → Type 0
 Sets x b s t = SetsDir s t b x.made (copy_at x b)
 
-locks_moved : (x : NewDir) (h : Held) (b : BrickNo) (s t : Scene) (r : Reply) → Guarantee s (mkdir_ask x b) r t → AllHeld h.scope (length h.scope.keys) s → AllHeld h.scope (length h.scope.keys) t
+locks_moved :
+    (x : NewDir) (h : Held) (b : BrickNo) (s t : Scene) (r : Reply)
+    → Guarantee s (mkdir_ask x b) r t → AllHeld h.scope (length h.scope.keys) s
+    → AllHeld h.scope (length h.scope.keys) t
 locks_moved x h b s t r m holds j l = lock_moved s t (mkdir_ask x b) r m (dir_of (key_at h.scope j)) (key_at h.scope j) tt ∙ holds j l
 
-parents_moved : (x : NewDir) (h : Held) (b : ℕ) (s t : Scene) → t.disk.count ≡ s.disk.count → above_of x.target ≢ x.made → Sets x b s t → HasParents x.target h s → HasParents x.target h t
+parents_moved :
+    (x : NewDir) (h : Held) (b : ℕ) (s t : Scene) → t.disk.count ≡ s.disk.count
+    → above_of x.target ≢ x.made → Sets x b s t → HasParents x.target h s → HasParents x.target h t
 parents_moved x h b s t count apart sets k i l mark = ap is_some (sets.others i (above_of x.target) apart) ∙ k i (omega arith) mark
 
 -- its range is the planned one, and the others are as they were
-ranges_moved : (x : NewDir) (b : ℕ) (s t : Scene) → t.disk.count ≡ s.disk.count → t.history.weights ≡ s.history.weights → Sets x b s t → IsPlannedAt s b x.made (value_at x b) → AllPlanned s.disk s.history.weights x.made → AllPlanned t.disk t.history.weights x.made
+ranges_moved :
+    (x : NewDir) (b : ℕ) (s t : Scene) → t.disk.count ≡ s.disk.count
+    → t.history.weights ≡ s.history.weights → Sets x b s t → IsPlannedAt s b x.made (value_at x b)
+    → AllPlanned s.disk s.history.weights x.made → AllPlanned t.disk t.history.weights x.made
 ranges_moved x b s t count weights sets gives k i y l e = elim (nat_cases i b) [
   | inl q ↦ inr (
       let there : Some (copy_at x b) ≡ Some y = sym sets.here ∙ (ap (λ (j : ℕ). dir_at t.disk j x.made) (sym q) ∙ e) in

@@ -1,4 +1,5 @@
--- The steps of a mkdir up to where it is known what the call comes to: the section, the depth of the directory above, and the heal.
+-- The steps of a mkdir up to where it is known what the call comes
+-- to: the section, the depth of the directory above, and the heal.
 use Rattle.std.proofs.Common.{◌≡◌, ◌<◌, ◌≤◌, ◌+◌, ◌*◌, ℕ, Bool, true, false, refl, sym, ◌∙◌, ap, subst, arith, inr, List}
 use Rattle.std.specs.Prelude.{Option, Some, None, [], MatchOption, is_some, length, nat_eq, nat_le, nat_lt, if◌then◌else◌}
 use Rattle.std.proofs.lemmas.Bool.Decides.{nat_tests}
@@ -79,29 +80,41 @@ use Rattle.dht_dirops.specs.declared.mkdir.Target.{Target}
 abbrev pub Went : Mkdir → Reply → Scene → Turn Mkdir Ended → Type 0
 Went m r t turn = MatchTurn turn (λ n. GoesOn (mkdir_stage m) (mkdir_stage n) r t) (λ d. EndsIn (mkdir_stage m) (ended d) t)
 
-pub comes_moved : (x : Target) (s t : Scene) (a : Ask) (r : Reply) → ComesOf x s → Guarantee s a r t → ComesOf x t
+pub comes_moved :
+    (x : Target) (s t : Scene) (a : Ask) (r : Reply) → ComesOf x s → Guarantee s a r t → ComesOf x t
 comes_moved x s t a r h m = record { call = m.mine.call ∙ h.call; origin_is = comes_from_moved x.origin s t a r h.origin_is m }
 
 -- an answer that is earned is given once the locks are given back
-pub closing_knows : (h : Held) (f : Finish) (s t : Scene) (a : Ask) (r : Reply) → IsOrdered h.scope → HasScope h.scope s → MayAnswer f t → Guarantee s a r t → (closing_stage (closing_of h f)).knows t
+pub closing_knows :
+    (h : Held) (f : Finish) (s t : Scene) (a : Ask) (r : Reply) → IsOrdered h.scope
+    → HasScope h.scope s → MayAnswer f t → Guarantee s a r t
+    → (closing_stage (closing_of h f)).knows t
 closing_knows h f s t a r order scope earned m =
     let some = order.some in
     record { order = order; scope = scope_moved h.scope s t a r scope m; within = omega arith; earned = earned }
 
 -- ---- what the tree says where a mkdir is refused
 
-says_exists : (p : Tree) (d : Gfid) (n : List ℕ) (node : Node) (g : Gfid) → p.dirs d ≡ true → nat_eq (depth_of p d) deepest ≡ false → p.names (d, n) ≡ Some node → answer_of (says p (Called d n) g) ≡ Some (Fault Eexist)
+says_exists :
+    (p : Tree) (d : Gfid) (n : List ℕ) (node : Node) (g : Gfid) → p.dirs d ≡ true
+    → nat_eq (depth_of p d) deepest ≡ false → p.names (d, n) ≡ Some node
+    → answer_of (says p (Called d n) g) ≡ Some (Fault Eexist)
 says_exists p d n node g e f k =
     ap (λ b. answer_of (if b then made_dir (depth_of p d) d n g (p.names (d, n)) else Refuse Estale)) e
     ∙ (ap (λ b. answer_of (if b then Refuse Enametoolong else made_within d n g (p.names (d, n)))) f
     ∙ ap (λ (o : Option Node). answer_of (made_within d n g o)) k)
 
-says_deep : (p : Tree) (d : Gfid) (n : List ℕ) (g : Gfid) → p.dirs d ≡ true → nat_eq (depth_of p d) deepest ≡ true → answer_of (says p (Called d n) g) ≡ Some (Fault Enametoolong)
+says_deep :
+    (p : Tree) (d : Gfid) (n : List ℕ) (g : Gfid) → p.dirs d ≡ true
+    → nat_eq (depth_of p d) deepest ≡ true
+    → answer_of (says p (Called d n) g) ≡ Some (Fault Enametoolong)
 says_deep p d n g e f =
     ap (λ b. answer_of (if b then made_dir (depth_of p d) d n g (p.names (d, n)) else Refuse Estale)) e
     ∙ ap (λ b. answer_of (if b then Refuse Enametoolong else made_within d n g (p.names (d, n)))) f
 
-says_gone : (p : Tree) (d : Gfid) (n : List ℕ) (g : Gfid) → p.dirs d ≡ false → answer_of (says p (Called d n) g) ≡ Some (Fault Estale)
+says_gone :
+    (p : Tree) (d : Gfid) (n : List ℕ) (g : Gfid) → p.dirs d ≡ false
+    → answer_of (says p (Called d n) g) ≡ Some (Fault Estale)
 says_gone p d n g e = ap (λ b. answer_of (if b then made_dir (depth_of p d) d n g (p.names (d, n)) else Refuse Estale)) e
 
 -- ---- a section that is held
@@ -260,14 +273,24 @@ root_deep d t sound e = record {
   depth = refl;
 }
 
-held_step : (x : Round) (m : Section) (h : Held) (r : Reply) (t : Scene) → Has x h t → Outlasts m (Holding h) → EndsIn (section_stage m) (opened_ending (Holding h)) t → GoesOn (mkdir_stage (Securing x m)) (mkdir_stage (mkdir_held x h)) r t
+held_step :
+    (x : Round) (m : Section) (h : Held) (r : Reply) (t : Scene) → Has x h t
+    → Outlasts m (Holding h) → EndsIn (section_stage m) (opened_ending (Holding h)) t
+    → GoesOn (mkdir_stage (Securing x m)) (mkdir_stage (mkdir_held x h)) r t
 held_step x m h r t k left ends = by (same_gfid (above_of x.target) root) refl
   where
     by : (v : Bool) → same_gfid (above_of x.target) root ≡ v → GoesOn (mkdir_stage (Securing x m)) (mkdir_stage (if v then mkdir_measured x.target x.room h 0 else Measuring x h)) r t
     by true e = measured_step x h r t k (mkdir_stage (Securing x m)) ends.claims (omega arith) 0 (root_deep (above_of x.target) t k.sound e)
     by false e = part_ends (section_stage m) (mkdir_stage (Measuring x h)) (opened_ending (Holding h)) (after_section x.learned x.target.location.bricks) (λ s. Secures x m s) r t ends refl (omega arith) (record { comes = k.comes; held = k.held; memory = k.memory; whole = k.anew })
 
-pub secured_step : (x : Round) (m : Section) (turn : Turn Section Opened) (r : Reply) (at : ℕ) (s t : Scene) → MatchTurn turn (λ n. GoesOn (section_stage m) (section_stage n) r t) (λ d. EndsIn (section_stage m) (opened_ending d) t) → MatchTurn turn (λ n. SeesAnew x.learned (above_of x.target) n t) (λ d. EndsAnew x.learned (above_of x.target) d t) → KeepsScope m turn → NamesGone m turn → LeavesUnlocks m turn → Served (mkdir_stage (Securing x m)) r at s t → Went (Securing x m) r t (mkdir_secured x turn)
+pub secured_step :
+    (x : Round) (m : Section) (turn : Turn Section Opened) (r : Reply) (at : ℕ) (s t : Scene)
+    → MatchTurn turn (λ n. GoesOn (section_stage m) (section_stage n) r t)
+    (λ d. EndsIn (section_stage m) (opened_ending d) t)
+    → MatchTurn turn (λ n. SeesAnew x.learned (above_of x.target) n t)
+    (λ d. EndsAnew x.learned (above_of x.target) d t)
+    → KeepsScope m turn → NamesGone m turn → LeavesUnlocks m turn
+    → Served (mkdir_stage (Securing x m)) r at s t → Went (Securing x m) r t (mkdir_secured x turn)
 secured_step x m (Go n) r at s t went anew same gone left v =
     let k = v.is_at.knows.1 in
     part_goes_on (section_stage m) (section_stage n) (after_section x.learned x.target.location.bricks) (λ s. Secures x m s) (λ s. Secures x n s) r t went
@@ -293,7 +316,10 @@ secured_step x m (Done (IsStopped e)) r at s t went anew same gone left v = reco
 -- ---- the depth of the directory above
 
 -- its home shows it
-copy_deep : (x : Round) (h : Held) (y : DirRecord) (s : Scene) → Sound s → Measures x h s → dir_at s.disk (home (above_of x.target)) (above_of x.target) ≡ Some y → home (above_of x.target) < s.disk.count → IsDeep (above_of x.target) y.depth s
+copy_deep :
+    (x : Round) (h : Held) (y : DirRecord) (s : Scene) → Sound s → Measures x h s
+    → dir_at s.disk (home (above_of x.target)) (above_of x.target) ≡ Some y
+    → home (above_of x.target) < s.disk.count → IsDeep (above_of x.target) y.depth s
 copy_deep x h y s sound k e l =
     let placed = sound.kept.tree.placed (above_of x.target) (in_tree x.target.location h s sound k.held) in
     record {
@@ -343,7 +369,15 @@ module _ (x : Round) (h : Held) (r : Reply) (at : ℕ) (s t : Scene) (v : Served
 -- ---- the heal
 
 -- the section begins anew
-anew_step : (x : Target) (layout : List (Option Range)) (m : Restart) (p : Prepared) (room : HealRoom) (r : Reply) (t : Scene) → ComesOf x t → p.scope ≡ scope_at x.location → EndsIn (restart_stage m) (restarted_ending (Ready p room)) t → GoesOn (mkdir_stage (Restarting x layout m)) (mkdir_stage (Securing (record { target = x; learned = Some layout; room = room }) (begun p))) r t
+anew_step :
+    (x : Target) (layout : List (Option Range)) (m : Restart) (p : Prepared) (room : HealRoom)
+    (r : Reply) (t : Scene)
+    → ComesOf x t → p.scope ≡ scope_at x.location
+    → EndsIn (restart_stage m) (restarted_ending (Ready p room)) t
+    → GoesOn (mkdir_stage (Restarting x layout m))
+    (mkdir_stage
+    (Securing (record { target = x; learned = Some layout; room = room }) (begun p)))
+    r t
 anew_step x layout m p room r t comes same ends =
     let variant = begun_variant x.location p same in
     record {
@@ -360,7 +394,13 @@ anew_step x layout m p room r t comes same ends =
       nearer = λ u. (λ w. omega arith, omega arith);
     }
 
-pub restarted_step : (x : Target) (layout : List (Option Range)) (m : Restart) (turn : Turn Restart Restarted) (r : Reply) (at : ℕ) (s t : Scene) → MatchTurn turn (λ n. GoesOn (restart_stage m) (restart_stage n) r t) (λ d. EndsIn (restart_stage m) (restarted_ending d) t) → KeepsRestart m turn → Served (mkdir_stage (Restarting x layout m)) r at s t → Went (Restarting x layout m) r t (mkdir_restarted x layout turn)
+pub restarted_step :
+    (x : Target) (layout : List (Option Range)) (m : Restart) (turn : Turn Restart Restarted)
+    (r : Reply) (at : ℕ) (s t : Scene)
+    → MatchTurn turn (λ n. GoesOn (restart_stage m) (restart_stage n) r t)
+    (λ d. EndsIn (restart_stage m) (restarted_ending d) t)
+    → KeepsRestart m turn → Served (mkdir_stage (Restarting x layout m)) r at s t
+    → Went (Restarting x layout m) r t (mkdir_restarted x layout turn)
 restarted_step x layout m (Go n) r at s t went same v =
     let k = v.is_at.knows.1 in
     part_goes_on (restart_stage m) (restart_stage n) (3 * x.location.bricks + 7) (λ s. Renews x m s) (λ s. Renews x n s) r t went (record { comes = comes_moved x s t _ r k.comes v.moved; scope = same ∙ k.scope })

@@ -66,7 +66,9 @@ use Rattle.dht_dirops.specs.declared.mkdir.Target.{Target}
 
 -- ---- the sweep
 
-may_kept : (m : Sweep) (x : NewDir) (h : Held) (r : Reply) (at : ℕ) (s t : Scene) → fault_of r ≡ None → Served (mkdir_stage (Sweeping m x h)) r at s t → MayMake x h t
+may_kept :
+    (m : Sweep) (x : NewDir) (h : Held) (r : Reply) (at : ℕ) (s t : Scene) → fault_of r ≡ None
+    → Served (mkdir_stage (Sweeping m x h)) r at s t → MayMake x h t
 may_kept m x h r at s t z v =
     let k = v.is_at.knows.1 in
     let may = k.may in
@@ -88,10 +90,21 @@ may_kept m x h r at s t z v =
       holder = may.holder;
     }
 
-sweep_some : (m : Sweep) (h : Held) (s : Scene) → Sweeps None m s → 0 < (sweep_stage (held_locks h) None m).variant
+sweep_some :
+    (m : Sweep) (h : Held) (s : Scene) → Sweeps None m s
+    → 0 < (sweep_stage (held_locks h) None m).variant
 sweep_some m h s w = let l = w.there in omega arith
 
-cleared_step : (m : Sweep) (x : NewDir) (h : Held) (turn : Turn Sweep (Option Errno)) (r : Reply) (at : ℕ) (s t : Scene) → MatchTurn turn (λ n. GoesOn (sweep_stage (held_locks h) None m) (sweep_stage (held_locks h) None n) r t) (λ d. EndsIn (sweep_stage (held_locks h) None m) (part_ending (held_locks h) (IsSwept m.location None) d) t) → EndsByFault r turn → KeepsLocation m turn → Served (mkdir_stage (Sweeping m x h)) r at s t → Went (Sweeping m x h) r t (mkdir_cleared x h turn)
+cleared_step :
+    (m : Sweep) (x : NewDir) (h : Held) (turn : Turn Sweep (Option Errno)) (r : Reply) (at : ℕ)
+    (s t : Scene)
+    → MatchTurn turn
+    (λ n. GoesOn (sweep_stage (held_locks h) None m) (sweep_stage (held_locks h) None n) r t)
+    (λ d.
+    EndsIn (sweep_stage (held_locks h) None m)
+    (part_ending (held_locks h) (IsSwept m.location None) d) t)
+    → EndsByFault r turn → KeepsLocation m turn → Served (mkdir_stage (Sweeping m x h)) r at s t
+    → Went (Sweeping m x h) r t (mkdir_cleared x h turn)
 cleared_step m x h (Go n) r at s t went noted same v = part_goes_on (sweep_stage (held_locks h) None m) (sweep_stage (held_locks h) None n) (unlocks h + x.target.location.bricks + 1) (λ s. Clears m x h s) (λ s. Clears n x h s) r t went (record { name = same ∙ v.is_at.knows.1.name; may = may_kept m x h r at s t noted v })
 cleared_step m x h (Done None) r at s t went noted same v =
     let some = sweep_some m h s v.is_at.knows.0 in
@@ -105,13 +118,19 @@ cleared_step m x h (Done (Some e)) r at s t went noted same v =
 
 -- ---- the closing
 
-closing_step : (c : Closing) (learned : Option (List (Option Range))) (turn : Turn Closing Finish) (r : Reply) (t : Scene) → MatchTurn turn (λ n. GoesOn (closing_stage c) (closing_stage n) r t) (λ d. EndsIn (closing_stage c) (answered d) t) → Went (Ending c learned) r t (mkdir_closed learned turn)
+closing_step :
+    (c : Closing) (learned : Option (List (Option Range))) (turn : Turn Closing Finish) (r : Reply)
+    (t : Scene)
+    → MatchTurn turn (λ n. GoesOn (closing_stage c) (closing_stage n) r t)
+    (λ d. EndsIn (closing_stage c) (answered d) t)
+    → Went (Ending c learned) r t (mkdir_closed learned turn)
 closing_step c learned (Go n) r t went = went
 closing_step c learned (Done f) r t went = went
 
 -- ---- all of it
 
-pub mkdir_moves : (m : Mkdir) (r : Reply) (at : ℕ) → Moves mkdir_stage ended m r at (mkdir_after m r at)
+pub mkdir_moves :
+    (m : Mkdir) (r : Reply) (at : ℕ) → Moves mkdir_stage ended m r at (mkdir_after m r at)
 mkdir_moves (Securing x m) r at s t v =
     let part = part_served (section_stage m) (after_section x.learned x.target.location.bricks) (λ s. Secures x m s) r at s t v in
     secured_step x m (section_after m r at) r at s t (section_moves m r at s t part) (anew_next x.learned (above_of x.target) m r at s t part v.is_at.knows.1.whole) (keeps_scope m r at) (names_gone m r at s v.is_at.knows.0) (leaves_unlocks m r at s v.is_at.knows.0) v
@@ -159,15 +178,24 @@ module _ (P : Mkdir → Type 0) (x : Round) (h : Held) (exists : P (refused Eexi
   of_shown None measures = measures
   of_shown (Some above) measures = of_measured above
 
-of_copying : (P : Mkdir → Type 0) (x : NewDir) (h : Held) (line : ℕ) (o : Option BrickNo) → P (closed x.target.location h (made_at x.made line)) → ((b : BrickNo) → P (Copying x h b line)) → P (copying o x h line)
+of_copying :
+    (P : Mkdir → Type 0) (x : NewDir) (h : Held) (line : ℕ) (o : Option BrickNo)
+    → P (closed x.target.location h (made_at x.made line))
+    → ((b : BrickNo) → P (Copying x h b line)) → P (copying o x h line)
 of_copying P x h line None ends copies = ends
 of_copying P x h line (Some b) ends copies = copies b
 
-of_made : (P : Mkdir → Type 0) (x : NewDir) (h : Held) (at : ℕ) (v : Bool) → P (closed x.target.location h (made_at x.made at)) → ((b : BrickNo) → P (Copying x h b at)) → P (Making x h) → P (made_by v x h at)
+of_made :
+    (P : Mkdir → Type 0) (x : NewDir) (h : Held) (at : ℕ) (v : Bool)
+    → P (closed x.target.location h (made_at x.made at)) → ((b : BrickNo) → P (Copying x h b at))
+    → P (Making x h) → P (made_by v x h at)
 of_made P x h at true ends copies makes = of_copying P x h at (next_copy x h 0) ends copies
 of_made P x h at false ends copies makes = makes
 
-of_copied : (P : Mkdir → Type 0) (x : NewDir) (h : Held) (b : BrickNo) (line : ℕ) (v : Bool) → P (closed x.target.location h (made_at x.made line)) → ((i : BrickNo) → P (Copying x h i line)) → P (copied_by v x h b line)
+of_copied :
+    (P : Mkdir → Type 0) (x : NewDir) (h : Held) (b : BrickNo) (line : ℕ) (v : Bool)
+    → P (closed x.target.location h (made_at x.made line))
+    → ((i : BrickNo) → P (Copying x h i line)) → P (copied_by v x h b line)
 of_copied P x h b line true ends copies = of_copying P x h line (next_copy x h (b.0 + 1)) ends copies
 of_copied P x h b line false ends copies = copies b
 
@@ -176,40 +204,55 @@ of_copied P x h b line false ends copies = copies b
 abbrev HasLearned : Target → Held → Mkdir → Type 0
 HasLearned x h n = mkdir_layout n ≡ Some (layout_of x h)
 
-target_layout : (y : NewDir) (x : Target) (h : Held) → y.target ≡ x → Some (layout_of y.target h) ≡ Some (layout_of x h)
+target_layout :
+    (y : NewDir) (x : Target) (h : Held) → y.target ≡ x
+    → Some (layout_of y.target h) ≡ Some (layout_of x h)
 target_layout y x h e = ap (λ (z : Target). Some (layout_of z h)) e
 
 held_learned : (x : Round) (h : Held) → HasLearned x.target h (mkdir_held x h)
 held_learned x h = of_held (HasLearned x.target h) x h refl refl refl (λ m y e. target_layout y x.target h e) (λ y e. target_layout y x.target h e) refl
 
-secured_learns : (x : Round) (m : Section) (turn : Turn Section Opened) (r : Reply) → turn_layout (entry_of x.target) turn ≡ section_taught (entry_of x.target) m r → Learns mkdir_layout mkdir_taught (Securing x m) r (mkdir_secured x turn)
+secured_learns :
+    (x : Round) (m : Section) (turn : Turn Section Opened) (r : Reply)
+    → turn_layout (entry_of x.target) turn ≡ section_taught (entry_of x.target) m r
+    → Learns mkdir_layout mkdir_taught (Securing x m) r (mkdir_secured x turn)
 secured_learns x m (Go n) r e = ap (λ (o : Option (List (Option Range))). either o x.learned) e
 secured_learns x m (Done (Holding h)) r e = held_learned x h ∙ ap (λ (o : Option (List (Option Range))). either o x.learned) e
 secured_learns x m (Done (IsGone g at)) r e = refl
 secured_learns x m (Done (IsStopped y)) r e = refl
 
 -- a brick's error leaves what was learned
-fault_learned : (x : Target) (h : Held) (o : Option Errno) (n : Mkdir) → HasLearned x h n → HasLearned x h (unless_fault o x.location h n)
+fault_learned :
+    (x : Target) (h : Held) (o : Option Errno) (n : Mkdir) → HasLearned x h n
+    → HasLearned x h (unless_fault o x.location h n)
 fault_learned x h None n e = e
 fault_learned x h (Some y) n e = refl
 
 shown_learned : (x : Round) (h : Held) (r : Reply) → HasLearned x.target h (mkdir_shown x h r)
 shown_learned x h r = fault_learned x.target h (fault_of r) (shown_by (depth_shown r) x h) (of_shown (HasLearned x.target h) x h refl refl refl (λ m y e. target_layout y x.target h e) (λ y e. target_layout y x.target h e) (depth_shown r) refl)
 
-restarted_learns : (x : Target) (layout : List (Option Range)) (m : Restart) (turn : Turn Restart Restarted) (r : Reply) → Learns mkdir_layout mkdir_taught (Restarting x layout m) r (mkdir_restarted x layout turn)
+restarted_learns :
+    (x : Target) (layout : List (Option Range)) (m : Restart) (turn : Turn Restart Restarted)
+    (r : Reply)
+    → Learns mkdir_layout mkdir_taught (Restarting x layout m) r (mkdir_restarted x layout turn)
 restarted_learns x layout m (Go n) r = refl
 restarted_learns x layout m (Done (Ready p room)) r = refl
 restarted_learns x layout m (Done (Stopped e)) r = refl
 
-cleared_learns : (m : Sweep) (x : NewDir) (h : Held) (turn : Turn Sweep (Option Errno)) (r : Reply) → Learns mkdir_layout mkdir_taught (Sweeping m x h) r (mkdir_cleared x h turn)
+cleared_learns :
+    (m : Sweep) (x : NewDir) (h : Held) (turn : Turn Sweep (Option Errno)) (r : Reply)
+    → Learns mkdir_layout mkdir_taught (Sweeping m x h) r (mkdir_cleared x h turn)
 cleared_learns m x h (Go n) r = refl
 cleared_learns m x h (Done fault) r = fault_learned x.target h fault (Making x h) refl
 
-closed_learns : (c : Closing) (learned : Option (List (Option Range))) (turn : Turn Closing Finish) (r : Reply) → Learns mkdir_layout mkdir_taught (Ending c learned) r (mkdir_closed learned turn)
+closed_learns :
+    (c : Closing) (learned : Option (List (Option Range))) (turn : Turn Closing Finish) (r : Reply)
+    → Learns mkdir_layout mkdir_taught (Ending c learned) r (mkdir_closed learned turn)
 closed_learns c learned (Go n) r = refl
 closed_learns c learned (Done f) r = refl
 
-pub mkdir_learns : (m : Mkdir) (r : Reply) (at : ℕ) → Learns mkdir_layout mkdir_taught m r (mkdir_after m r at)
+pub mkdir_learns :
+    (m : Mkdir) (r : Reply) (at : ℕ) → Learns mkdir_layout mkdir_taught m r (mkdir_after m r at)
 mkdir_learns (Securing x m) r at = secured_learns x m (section_after m r at) r (taught_at (entry_of x.target) m r at 0)
 mkdir_learns (Measuring x h) r at = shown_learned x h r
 mkdir_learns (Restarting x layout m) r at = restarted_learns x layout m (restart_after m r at) r
@@ -230,31 +273,49 @@ IsSound n = mkdir_fault n ≡ None
 held_sound : (x : Round) (h : Held) → IsSound (mkdir_held x h)
 held_sound x h = of_held IsSound x h refl refl refl (λ m y e. refl) (λ y e. refl) refl
 
-secured_notes : (x : Round) (m : Section) (turn : Turn Section Opened) (r : Reply) → MatchTurn turn (λ n. section_fault n ≡ fault_now m r) (λ d. opened_fault d ≡ fault_now m r) → Notes (Securing x m) r (mkdir_secured x turn)
+secured_notes :
+    (x : Round) (m : Section) (turn : Turn Section Opened) (r : Reply)
+    → MatchTurn turn (λ n. section_fault n ≡ fault_now m r) (λ d. opened_fault d ≡ fault_now m r)
+    → Notes (Securing x m) r (mkdir_secured x turn)
 secured_notes x m (Go n) r e = section_notes m r (section_fault n) e
 secured_notes x m (Done (Holding h)) r e = held_sound x h ∙ section_notes m r None e
 secured_notes x m (Done (IsGone g at)) r e = section_notes m r None e
 secured_notes x m (Done (IsStopped y)) r e = section_notes m r (Some y) e
 
 -- where a reply tells of a brick's error, that ends it
-fault_notes : (l : Location) (h : Held) (r : Reply) (o : Option Errno) (n : Mkdir) → fault_of r ≡ o → IsSound n → mkdir_fault (unless_fault o l h n) ≡ fault_of r
+fault_notes :
+    (l : Location) (h : Held) (r : Reply) (o : Option Errno) (n : Mkdir) → fault_of r ≡ o
+    → IsSound n → mkdir_fault (unless_fault o l h n) ≡ fault_of r
 fault_notes l h r None n e sound = sound ∙ sym e
 fault_notes l h r (Some y) n e sound = ap part_fault (sym e) ∙ fault_errors r
 
-restarted_notes : (x : Target) (layout : List (Option Range)) (m : Restart) (turn : Turn Restart Restarted) (r : Reply) → NotesRestart m r turn → Notes (Restarting x layout m) r (mkdir_restarted x layout turn)
+restarted_notes :
+    (x : Target) (layout : List (Option Range)) (m : Restart) (turn : Turn Restart Restarted)
+    (r : Reply)
+    → NotesRestart m r turn → Notes (Restarting x layout m) r (mkdir_restarted x layout turn)
 restarted_notes x layout m (Go n) r e = e
 restarted_notes x layout m (Done (Ready p room)) r e = e
 restarted_notes x layout m (Done (Stopped y)) r e = e
 
-swept_fault : (x : NewDir) (h : Held) (fault : Option Errno) → mkdir_fault (unless_fault fault x.target.location h (Making x h)) ≡ part_fault fault
+swept_fault :
+    (x : NewDir) (h : Held) (fault : Option Errno)
+    → mkdir_fault (unless_fault fault x.target.location h (Making x h)) ≡ part_fault fault
 swept_fault x h None = refl
 swept_fault x h (Some e) = refl
 
-cleared_notes : (m : Sweep) (x : NewDir) (h : Held) (turn : Turn Sweep (Option Errno)) (r : Reply) → EndsByFault r turn → Notes (Sweeping m x h) r (mkdir_cleared x h turn)
+cleared_notes :
+    (m : Sweep) (x : NewDir) (h : Held) (turn : Turn Sweep (Option Errno)) (r : Reply)
+    → EndsByFault r turn → Notes (Sweeping m x h) r (mkdir_cleared x h turn)
 cleared_notes m x h (Go n) r e = sym e
 cleared_notes m x h (Done fault) r e = swept_fault x h fault ∙ (ap part_fault e ∙ fault_errors r)
 
-closed_notes : (c : Closing) (learned : Option (List (Option Range))) (r : Reply) (v : Bool) → Notes (Ending c learned) r (mkdir_closed learned (if v then Go (record { scope = c.scope; place = c.place - 1; finish = c.finish }) else Done c.finish))
+closed_notes :
+    (c : Closing) (learned : Option (List (Option Range))) (r : Reply) (v : Bool)
+    → Notes (Ending c learned) r
+    (mkdir_closed learned
+    (if v
+    then Go (record { scope = c.scope; place = c.place - 1; finish = c.finish })
+    else Done c.finish))
 closed_notes c learned r true = either_none (brick_fault c.finish.answer)
 closed_notes c learned r false = either_none (brick_fault c.finish.answer)
 
@@ -278,10 +339,13 @@ not_shown Down e = refl
 not_shown Failed e = refl
 not_shown NoMemory e = refl
 
-shown_again : (x : Round) (h : Held) (r : Reply) → fault_of r ≡ None → is_shown r ≡ false → mkdir_shown x h r ≡ Measuring x h
+shown_again :
+    (x : Round) (h : Held) (r : Reply) → fault_of r ≡ None → is_shown r ≡ false
+    → mkdir_shown x h r ≡ Measuring x h
 shown_again x h r z e = ap (λ (o : Option Errno). unless_fault o x.target.location h (shown_by (depth_shown r) x h)) z ∙ ap (λ (o : Option ℕ). shown_by o x h) (not_shown r e)
 
-pub mkdir_again : (m : Mkdir) (r : Reply) (at : ℕ) → IsUnanswered (mkdir_stage m) r → mkdir_after m r at ≡ Go m
+pub mkdir_again :
+    (m : Mkdir) (r : Reply) (at : ℕ) → IsUnanswered (mkdir_stage m) r → mkdir_after m r at ≡ Go m
 mkdir_again (Securing x m) r at h = absurd (never_unanswered m r h)
 mkdir_again (Measuring x k) r at h = ap Go (shown_again x k r h.0 h.1)
 mkdir_again (Restarting x layout m) r at h = ap (mkdir_restarted x layout) (restart_again m r at h)
@@ -292,13 +356,17 @@ mkdir_again (Ending c learned) r at h = absurd h.1
 
 -- ---- its beginning
 
-pub first_knows : (bricks : ℕ) (d : Gfid) (n : List ℕ) (o : Origin) (room : HealRoom) (s : Scene) → MayMkdir bricks d n o room s → (mkdir_stage (first_mkdir bricks d n o room)).knows s
+pub first_knows :
+    (bricks : ℕ) (d : Gfid) (n : List ℕ) (o : Origin) (room : HealRoom) (s : Scene)
+    → MayMkdir bricks d n o room s → (mkdir_stage (first_mkdir bricks d n o room)).knows s
 first_knows bricks d n o room s h = (
   one_knows bricks d Shared n s (one_fresh bricks d Shared n s h.count h.home h.deeds),
   record { comes = record { call = h.call; origin_is = h.origin_is }; scope = refl; memory = h.memory; whole = tt },
 )
 
-pub first_starts : (bricks : ℕ) (d : Gfid) (n : List ℕ) (o : Origin) (room : HealRoom) → StartsMkdir bricks d (mkdir_stage (first_mkdir bricks d n o room))
+pub first_starts :
+    (bricks : ℕ) (d : Gfid) (n : List ℕ) (o : Origin) (room : HealRoom)
+    → StartsMkdir bricks d (mkdir_stage (first_mkdir bricks d n o room))
 first_starts bricks d n o room =
     let x = starts bricks d Shared n in
     let v = x.variant in

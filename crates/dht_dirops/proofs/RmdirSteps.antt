@@ -72,13 +72,20 @@ Went m r t turn = MatchTurn turn (λ n. GoesOn (rmdir_stage m) (rmdir_stage n) r
 
 -- ---- what its own requests leave
 
-call_moved : (l : Location) (s t : Scene) (a : Ask) (r : Reply) → IsRmdir l s → Guarantee s a r t → IsRmdir l t
+call_moved :
+    (l : Location) (s t : Scene) (a : Ask) (r : Reply) → IsRmdir l s → Guarantee s a r t
+    → IsRmdir l t
 call_moved l s t a r h m = m.mine.call ∙ h
 
-room_moved : (l : Location) (p : Prepared) (s t : Scene) (a : Ask) (r : Reply) → IsQuiet a.request → IsRoom l p s → Guarantee s a r t → IsRoom l p t
+room_moved :
+    (l : Location) (p : Prepared) (s t : Scene) (a : Ask) (r : Reply) → IsQuiet a.request
+    → IsRoom l p s → Guarantee s a r t → IsRoom l p t
 room_moved l p s t a r q h m = record { scope = h.scope; can = can_begin_moved p s t a r q h.can m }
 
-secures_moved : (x : Removal) (m n : Section) (room : Prepared) (s t : Scene) (a : Ask) (r : Reply) → IsQuiet a.request → section_scope n ≡ section_scope m → Secures x m room s → Guarantee s a r t → Secures x n room t
+secures_moved :
+    (x : Removal) (m n : Section) (room : Prepared) (s t : Scene) (a : Ask) (r : Reply)
+    → IsQuiet a.request → section_scope n ≡ section_scope m → Secures x m room s → Guarantee s a r t
+    → Secures x n room t
 secures_moved x m n room s t a r q same h g = record {
   removes = record { call = call_moved x.location s t a r h.removes.call g; apart = h.removes.apart };
   scope = same ∙ h.scope;
@@ -86,7 +93,10 @@ secures_moved x m n room s t a r q same h g = record {
   named = if_alone_moved (IsNamed x) (λ u w keeps k. ap (λ (p : Tree). p.names (entry_at x.location)) keeps.tree ∙ k) s t a r q h.named g;
 }
 
-reopens_moved : (l : Location) (m n : Release) (room : Prepared) (s t : Scene) (a : Ask) (r : Reply) → IsQuiet a.request → n.scope ≡ m.scope → Reopens l m room s → Guarantee s a r t → Reopens l n room t
+reopens_moved :
+    (l : Location) (m n : Release) (room : Prepared) (s t : Scene) (a : Ask) (r : Reply)
+    → IsQuiet a.request → n.scope ≡ m.scope → Reopens l m room s → Guarantee s a r t
+    → Reopens l n room t
 reopens_moved l m n room s t a r q same h g = record {
   call = call_moved l s t a r h.call g;
   scope = (h.scope.0, same ∙ h.scope.1);
@@ -97,7 +107,9 @@ reopens_moved l m n room s t a r q same h g = record {
 -- ---- claims
 
 -- what holds no lock may claim whatever it asks for next
-free_claims : (t : Scene) (old new : Claim) → new.copy ≡ None → MayClaimNext t old no_claim → MayClaimNext t old new
+free_claims :
+    (t : Scene) (old new : Claim) → new.copy ≡ None → MayClaimNext t old no_claim
+    → MayClaimNext t old new
 free_claims t old new copy h = record {
   locks = λ b key m l holds. absurd (h.locks b key m l holds);
   copy = λ f dest. subst (λ (c : Option Rattle.dht_section.specs.Claims.Copy). Rattle.dht_section.specs.Claims.place_in c f dest ≤ Rattle.dht_section.specs.Claims.place_in old.copy f dest) (sym copy) (h.copy f dest);
@@ -109,13 +121,16 @@ one_left : (bricks : ℕ) → looks_left bricks 1 ≡ bricks
 unfolding looks_left
 one_left bricks = omega arith
 
-pair_variant : (p : Prepared) (bricks : ℕ) (d g : Gfid) (n : List ℕ) → p.scope ≡ pair_scope bricks d g n → (section_stage (begun p)).variant ≡ bricks + 6
+pair_variant :
+    (p : Prepared) (bricks : ℕ) (d g : Gfid) (n : List ℕ) → p.scope ≡ pair_scope bricks d g n
+    → (section_stage (begun p)).variant ≡ bricks + 6
 pair_variant p bricks d g n e =
     ap (λ (w : Scoped). length w.keys - 0 + looks_left w.bricks (length w.names) + suc (last_lock w)) e
     ∙ (let z = one_left bricks in omega arith)
 
 -- the volume and the directory of a lookup that has memory left
-room_count : (l : Location) (p : Prepared) (s : Scene) → IsRoom l p s → length s.history.weights ≡ l.bricks
+room_count :
+    (l : Location) (p : Prepared) (s : Scene) → IsRoom l p s → length s.history.weights ≡ l.bricks
 room_count l p s h = h.can.fresh.scope.bricks ∙ ap (λ (w : Scoped). w.bricks) h.scope
 
 room_home : (l : Location) (p : Prepared) (s : Scene) → IsRoom l p s → home l.directory < l.bricks
@@ -176,7 +191,13 @@ module _ (m : Lookup) (p : Prepared) (d : Resolved) (r : Reply) (at : ℕ) (s t 
   resolved_by answer.Done o e k = absurd (done_never l.directory l.name t called told.deeds d.answered.finish.at (tells answer.Done e))
   resolved_by (answer.Fault x) o e k = answers_step (answer.Fault x) (fault_as l.directory l.name t called told.deeds d.answered.finish.at x (tells (answer.Fault x) e))
 
-resolved_step : (m : Lookup) (p : Prepared) (turn : Turn Lookup Resolved) (r : Reply) (at : ℕ) (s t : Scene) → KeepsLocation m turn → MatchTurn turn (λ n. GoesOn (lookup_stage m) (lookup_stage n) r t) (λ d. EndsIn (lookup_stage m) (resolved d) t) → Served (rmdir_stage (Resolving m p)) r at s t → Went (Resolving m p) r t (rmdir_resolved turn p)
+resolved_step :
+    (m : Lookup) (p : Prepared) (turn : Turn Lookup Resolved) (r : Reply) (at : ℕ) (s t : Scene)
+    → KeepsLocation m turn
+    → MatchTurn turn (λ n. GoesOn (lookup_stage m) (lookup_stage n) r t)
+    (λ d. EndsIn (lookup_stage m) (resolved d) t)
+    → Served (rmdir_stage (Resolving m p)) r at s t
+    → Went (Resolving m p) r t (rmdir_resolved turn p)
 resolved_step m p (Done d) r at s t same ends v = resolved_by m p d r at s t same v ends d.answered.finish.answer d.room refl refl
 resolved_step m p (Go n) r at s t same went v = subst (λ (b : ℕ). GoesOn (rmdir_stage (Resolving m p)) (Rattle.dht_section.specs.Parts.as_part (lookup_stage n) (3 * b + 8) (λ u. Resolves (lookup_location n) p u)) r t) (ap (λ (l : Location). l.bricks) (sym same))
     (part_goes_on (lookup_stage m) (lookup_stage n) (3 * (lookup_location m).bricks + 8) (λ u. Resolves (lookup_location m) p u) (λ u. Resolves (lookup_location n) p u) r t went
@@ -184,7 +205,9 @@ resolved_step m p (Go n) r at s t same went v = subst (λ (b : ℕ). GoesOn (rmd
 
 -- ---- the section has ended
 
-refuses_rmdir : (l : Location) (p : Tree) (g : Gfid) → p.dirs l.directory ≡ false → answer_of (says p (Called l.directory l.name) g) ≡ Some (answer.Fault Estale)
+refuses_rmdir :
+    (l : Location) (p : Tree) (g : Gfid) → p.dirs l.directory ≡ false
+    → answer_of (says p (Called l.directory l.name) g) ≡ Some (answer.Fault Estale)
 refuses_rmdir l p g e = ap (λ (b : Bool). answer_of (if b then removed p l.directory l.name (p.names (entry_at l)) else Refuse Estale)) e
 
 -- a name that was seen as this directory, and no other is
@@ -202,7 +225,11 @@ is_other g (Dir f) e k =
     cc
 is_other g (File f b links) e k = (let z : Some (IsDir g) ≡ Some (IsFile f) = k in cc)
 
-either : (m : Rmdir) (r : Reply) (t : Scene) (v : Bool) (a b : Rmdir) → (v ≡ true → GoesOn (rmdir_stage m) (rmdir_stage a) r t) → (v ≡ false → GoesOn (rmdir_stage m) (rmdir_stage b) r t) → GoesOn (rmdir_stage m) (rmdir_stage (if v then a else b)) r t
+either :
+    (m : Rmdir) (r : Reply) (t : Scene) (v : Bool) (a b : Rmdir)
+    → (v ≡ true → GoesOn (rmdir_stage m) (rmdir_stage a) r t)
+    → (v ≡ false → GoesOn (rmdir_stage m) (rmdir_stage b) r t)
+    → GoesOn (rmdir_stage m) (rmdir_stage (if v then a else b)) r t
 either m r t true a b f g = f refl
 either m r t false a b f g = g refl
 
@@ -258,7 +285,14 @@ module _ (x : Removal) (m : Section) (room : Prepared) (learned : Option (List (
   held_step : GoesOn (rmdir_stage (Securing x m room learned)) (rmdir_stage (removal_held x h room)) r t
   held_step = either (Securing x m room learned) r t (is_that x.directory what) _ _ inspects_step reopens_step
 
-secured_step : (x : Removal) (m : Section) (room : Prepared) (learned : Option (List (Option Range))) (turn : Turn Section Opened) (r : Reply) (at : ℕ) (s t : Scene) → MatchTurn turn (λ n. GoesOn (section_stage m) (section_stage n) r t) (λ d. EndsIn (section_stage m) (opened_ending d) t) → KeepsScope m turn → NamesGone m turn → LeavesUnlocks m turn → Served (rmdir_stage (Securing x m room learned)) r at s t → Went (Securing x m room learned) r t (rmdir_secured x room learned turn)
+secured_step :
+    (x : Removal) (m : Section) (room : Prepared) (learned : Option (List (Option Range)))
+    (turn : Turn Section Opened) (r : Reply) (at : ℕ) (s t : Scene)
+    → MatchTurn turn (λ n. GoesOn (section_stage m) (section_stage n) r t)
+    (λ d. EndsIn (section_stage m) (opened_ending d) t)
+    → KeepsScope m turn → NamesGone m turn → LeavesUnlocks m turn
+    → Served (rmdir_stage (Securing x m room learned)) r at s t
+    → Went (Securing x m room learned) r t (rmdir_secured x room learned turn)
 secured_step x m room learned (Go n) r at s t went same gone left v = part_goes_on (section_stage m) (section_stage n) (x.location.bricks + x.location.bricks + 2) (λ u. Secures x m room u) (λ u. Secures x n room u) r t went (secures_moved x m n room s t _ r (asks_quiet m) same v.is_at.knows.1 v.moved)
 secured_step x m room learned (Done (Holding h)) r at s t went same gone left v = held_step x m room learned h r at s t same left went v
 secured_step x m room learned (Done (IsGone g line)) r at s t went same gone left v =
@@ -285,7 +319,13 @@ same_scope m = by (nat_lt 0 m.place)
     by true = refl
     by false = refl
 
-again_step : (l : Location) (m : Release) (room p : Prepared) (layout : List (Option Range)) (r : Reply) (at : ℕ) (s t : Scene) → p.scope ≡ m.scope → EndsIn (release_stage m) (released_ending p) t → Served (rmdir_stage (Releasing l m room layout)) r at s t → GoesOn (rmdir_stage (Releasing l m room layout)) (rmdir_stage (Resolving (lookup_again room l (Some layout)) p)) r t
+again_step :
+    (l : Location) (m : Release) (room p : Prepared) (layout : List (Option Range)) (r : Reply)
+    (at : ℕ) (s t : Scene)
+    → p.scope ≡ m.scope → EndsIn (release_stage m) (released_ending p) t
+    → Served (rmdir_stage (Releasing l m room layout)) r at s t
+    → GoesOn (rmdir_stage (Releasing l m room layout))
+    (rmdir_stage (Resolving (lookup_again room l (Some layout)) p)) r t
 again_step l m room p layout r at s t same ends v =
     let k = reopens_moved l m m room s t _ r tt refl v.is_at.knows.1 v.moved in
     let ready = again_ready room l (Some layout) t k.memory in
@@ -302,17 +342,28 @@ again_step l m room p layout r at s t same ends v =
       nearer = λ u. absurd (k.disturbed (record { first = u.first; last = u.last }));
     }
 
-released_step : (l : Location) (m : Release) (room : Prepared) (layout : List (Option Range)) (turn : Turn Release Prepared) (r : Reply) (at : ℕ) (s t : Scene) → SameScope m turn → ReleaseWent m r t turn → Served (rmdir_stage (Releasing l m room layout)) r at s t → Went (Releasing l m room layout) r t (rmdir_released l room layout turn)
+released_step :
+    (l : Location) (m : Release) (room : Prepared) (layout : List (Option Range))
+    (turn : Turn Release Prepared) (r : Reply) (at : ℕ) (s t : Scene)
+    → SameScope m turn → ReleaseWent m r t turn
+    → Served (rmdir_stage (Releasing l m room layout)) r at s t
+    → Went (Releasing l m room layout) r t (rmdir_released l room layout turn)
 released_step l m room layout (Go n) r at s t same went v = part_goes_on (release_stage m) (release_stage n) 0 (λ u. Reopens l m room u) (λ u. Reopens l n room u) r t went (reopens_moved l m n room s t _ r tt same v.is_at.knows.1 v.moved)
 released_step l m room layout (Done p) r at s t same went v = again_step l m room p layout r at s t same went v
 
 -- ---- all of it
 
-closed_turn : (c : Closing) (learned : Option (List (Option Range))) (turn : Turn Closing Finish) (r : Reply) (t : Scene) → MatchTurn turn (λ n. GoesOn (closing_stage c) (closing_stage n) r t) (λ f. EndsIn (closing_stage c) (Rattle.dht_section.specs.Stages.answered f) t) → Went (Ending c learned) r t (rmdir_closed learned turn)
+closed_turn :
+    (c : Closing) (learned : Option (List (Option Range))) (turn : Turn Closing Finish) (r : Reply)
+    (t : Scene)
+    → MatchTurn turn (λ n. GoesOn (closing_stage c) (closing_stage n) r t)
+    (λ f. EndsIn (closing_stage c) (Rattle.dht_section.specs.Stages.answered f) t)
+    → Went (Ending c learned) r t (rmdir_closed learned turn)
 closed_turn c learned (Go n) r t h = h
 closed_turn c learned (Done f) r t h = h
 
-pub rmdir_moves : (m : Rmdir) (r : Reply) (at : ℕ) → Moves rmdir_stage ended m r at (rmdir_after m r at)
+pub rmdir_moves :
+    (m : Rmdir) (r : Reply) (at : ℕ) → Moves rmdir_stage ended m r at (rmdir_after m r at)
 rmdir_moves (Resolving m p) r at s t v = resolved_step m p (lookup_after m r at) r at s t (keeps_location m r at) (lookup_moves m r at s t (part_served (lookup_stage m) _ _ r at s t v)) v
 rmdir_moves (Securing x m room learned) r at s t v =
     let part = part_served (section_stage m) _ _ r at s t v in

@@ -263,7 +263,8 @@ first_mkdir bricks d n o room =
     Securing (first_round bricks d n o room) (section_at (located bricks d n))
 
 -- the scene in which it begins
-pub record MayMkdir (bricks : ℕ) (d : Gfid) (n : List ℕ) (o : Origin) (room : HealRoom) (s : Scene) : Type 0 where
+pub record MayMkdir (bricks : ℕ) (d : Gfid) (n : List ℕ) (o : Origin) (room : HealRoom) (s : Scene)
+    : Type 0 where
   pub count : length s.history.weights ≡ bricks
   pub home : home d < bricks
   pub call : s.mine.call ≡ Called d n
@@ -384,7 +385,8 @@ abbrev pub mkdir_shown : Round → Held → Reply → Mkdir
 mkdir_shown x h r = unless_fault (fault_of r) x.target.location h (shown_by (depth_shown r) x h)
 
 -- a directory that was healed leads on, and so does one that was gone
-abbrev pub mkdir_restarted : Target → List (Option Range) → Turn Restart Restarted → Turn Mkdir Ended
+abbrev pub mkdir_restarted :
+    Target → List (Option Range) → Turn Restart Restarted → Turn Mkdir Ended
 mkdir_restarted x layout (Go m) = Go (Restarting x layout m)
 mkdir_restarted x layout (Done (Ready p room)) =
     Go (Securing (record { target = x; learned = Some layout; room = room }) (begun p))

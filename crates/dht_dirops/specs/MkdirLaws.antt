@@ -64,20 +64,27 @@ use Rattle.dht_dirops.specs.declared.mkdir.Target.{Target}
 -- ---- what the tree says
 
 -- a tree that has the directory, not too deep, and not the name, says to make the directory
-pub says_mkdir : (t : Tree) (d : Gfid) (n : List ℕ) (g : Gfid) → t.dirs d ≡ true → nat_eq (depth_of t d) deepest ≡ false → t.names (d, n) ≡ None → says t (Called d n) g ≡ Do (AddDir d n g ∷ []) (Made g)
+pub says_mkdir :
+    (t : Tree) (d : Gfid) (n : List ℕ) (g : Gfid) → t.dirs d ≡ true
+    → nat_eq (depth_of t d) deepest ≡ false → t.names (d, n) ≡ None
+    → says t (Called d n) g ≡ Do (AddDir d n g ∷ []) (Made g)
 says_mkdir t d n g e f k =
     ap (λ b. if b then made_dir (depth_of t d) d n g (t.names (d, n)) else Refuse Estale) e
     ∙ (ap (λ b. if b then Refuse Enametoolong else made_within d n g (t.names (d, n))) f
     ∙ ap (λ (o : Option Node). made_within d n g o) k)
 
 -- the directory above is as deep as was shown
-pub depth_is : (g : Gfid) (deep : ℕ) (s : Scene) → IsDeep g deep s → depth_of s.history.tree g ≡ deep
+pub depth_is :
+    (g : Gfid) (deep : ℕ) (s : Scene) → IsDeep g deep s → depth_of s.history.tree g ≡ deep
 depth_is g deep s h = ap depth_in h.is ∙ h.depth
 
 not_deepest : (depth above : ℕ) → depth ≡ above → above < deepest → nat_eq depth deepest ≡ false
 not_deepest depth above e l = grind (arith, nat_tests, e, l)
 
-pub free_says : (x : NewDir) (h : Held) (s : Scene) → Sound s → IsFree x h s → says s.history.tree s.mine.call x.made ≡ Do (AddDir (above_of x.target) x.target.location.name x.made ∷ []) (Made x.made)
+pub free_says :
+    (x : NewDir) (h : Held) (s : Scene) → Sound s → IsFree x h s
+    → says s.history.tree s.mine.call x.made
+    ≡ Do (AddDir (above_of x.target) x.target.location.name x.made ∷ []) (Made x.made)
 free_says x h s sound k =
     ap (λ (c : Call Gfid). says s.history.tree c x.made) k.may.comes.call
     ∙ says_mkdir s.history.tree (above_of x.target) x.target.location.name x.made (kept_directory x.target.location h s sound k.may.kept) (not_deepest _ k.may.above (depth_is (above_of x.target) k.may.above s k.may.deep) k.may.shallow) k.swept.stands.node
@@ -85,30 +92,41 @@ free_says x h s sound k =
 -- ---- the new directory
 
 -- its gfid is the call's own, of nothing yet, and its home is the brick to which it goes
-made_own : (x : NewDir) (h : Held) (s : Scene) → Sound s → MayMake x h s → IsOwn s.history.run s.who s.mine.number x.made
+made_own :
+    (x : NewDir) (h : Held) (s : Scene) → Sound s → MayMake x h s
+    → IsOwn s.history.run s.who s.mine.number x.made
 made_own x h s sound k = subst (λ (g : Gfid). IsOwn s.history.run s.who s.mine.number g) (sym k.made_is) (origin_own x.target.origin x.home.0 s (let w = k.there in let few = sound.kept.few in omega arith) k.comes.origin_is)
 
 pub made_unused : (x : NewDir) (h : Held) (s : Scene) → Sound s → MayMake x h s → IsUnused s x.made
 made_unused x h s sound k = subst (IsUnused s) (sym k.made_is) (origin_unused x.target.origin x.home.0 s sound k.there k.kept.fresh.deeds k.comes.origin_is)
 
-pub made_home : (x : NewDir) (h : Held) (s : Scene) → Sound s → MayMake x h s → home x.made ≡ x.home.0
+pub made_home :
+    (x : NewDir) (h : Held) (s : Scene) → Sound s → MayMake x h s → home x.made ≡ x.home.0
 made_home x h s sound k = ap home k.made_is ∙ origin_home x.target.origin x.home.0 s sound k.there k.kept.fresh.deeds k.comes.origin_is
 
-made_free : (x : NewDir) (h : Held) (s : Scene) → Sound s → MayMake x h s → s.history.tree.dirs x.made ≡ false
+made_free :
+    (x : NewDir) (h : Held) (s : Scene) → Sound s → MayMake x h s
+    → s.history.tree.dirs x.made ≡ false
 made_free x h s sound k = false_from_ne_true (s.history.tree.dirs x.made) (λ e. made_unused x h s sound k (ByDir e))
 
 -- no brick has a copy of it
-pub no_copy : (x : NewDir) (h : Held) (s : Scene) → Sound s → MayMake x h s → (b : ℕ) → b < s.disk.count → dir_at s.disk b x.made ≡ None
+pub no_copy :
+    (x : NewDir) (h : Held) (s : Scene) → Sound s → MayMake x h s → (b : ℕ) → b < s.disk.count
+    → dir_at s.disk b x.made ≡ None
 no_copy x h s sound k b l = by (dir_at s.disk b x.made) refl
   where
     by : (o : Option DirRecord) → dir_at s.disk b x.made ≡ o → o ≡ None
     by None e = refl
     by (Some r) e = absurd (made_unused x h s sound k (ByCopy b l (ap is_some e)))
 
-pub none_planned : (x : NewDir) (h : Held) (s : Scene) → Sound s → MayMake x h s → AllPlanned s.disk s.history.weights x.made
+pub none_planned :
+    (x : NewDir) (h : Held) (s : Scene) → Sound s → MayMake x h s
+    → AllPlanned s.disk s.history.weights x.made
 none_planned x h s sound k b r l e = absurd (let z : None ≡ Some r = sym (no_copy x h s sound k b l) ∙ e in cc)
 
-wants_dir : (x : NewDir) (h : Held) (s : Scene) → Sound s → IsFree x h s → Wants s (AddDir (above_of x.target) x.target.location.name x.made)
+wants_dir :
+    (x : NewDir) (h : Held) (s : Scene) → Sound s → IsFree x h s
+    → Wants s (AddDir (above_of x.target) x.target.location.name x.made)
 wants_dir x h s sound k = record {
   next = subst (λ (d : Option Deeds). IsNext s.history.tree s.mine.call d (AddDir (above_of x.target) x.target.location.name x.made)) (sym k.may.kept.fresh.deeds) ([], (Made x.made, free_says x h s sound k));
   fits = (
@@ -123,14 +141,19 @@ wants_dir x h s sound k = record {
 -- ---- its ranges
 
 -- the value of a planned range is read as that range
-plan_read : (s : Scene) (g : Gfid) (plan : List (Option Range)) (b : ℕ) → b < length s.history.weights → plan ≡ planned s.history.weights g → IsPlannedAt s b g (value_of (slice_index_or plan b None))
+plan_read :
+    (s : Scene) (g : Gfid) (plan : List (Option Range)) (b : ℕ) → b < length s.history.weights
+    → plan ≡ planned s.history.weights g → IsPlannedAt s b g (value_of (slice_index_or plan b None))
 plan_read s g plan b l e =
     let size = planned_length s.history.weights g in
     ap (λ (p : List (Option Range)). range_of_value (value_of (slice_index_or p b None))) e
     ∙ (value_read (slice_index_or (planned s.history.weights g) b None)
     ∙ All-get_or (λ (r : Option Range). option_and_then decoded (value_of r) ≡ r) (planned s.history.weights g) b None (omega arith) (planned_read s.history.weights g))
 
-pub gives_planned : (x : NewDir) (b : ℕ) (s : Scene) → Sound s → b < s.disk.count → x.plan ≡ planned s.history.weights x.made → IsPlannedAt s b x.made (value_of (slice_index_or x.plan b None))
+pub gives_planned :
+    (x : NewDir) (b : ℕ) (s : Scene) → Sound s → b < s.disk.count
+    → x.plan ≡ planned s.history.weights x.made
+    → IsPlannedAt s b x.made (value_of (slice_index_or x.plan b None))
 gives_planned x b s sound l e = plan_read s x.made x.plan b (let c = sound.kept.counted in omega arith) e
 
 -- ---- what it may ask
@@ -139,7 +162,11 @@ gives_planned x b s sound l e = plan_read s x.made x.plan b (let c = sound.kept.
 pub home_step : (b : ℕ) (g : Gfid) (step : TreeStep) → b ≡ home g → at_home b g step ≡ Some step
 home_step b g step e = ap (λ (v : Bool). if v then Some step else None) ((exact_nat b (home g)).1 e)
 
-makes_dir : (x : NewDir) (h : Held) (s : Scene) → Sound s → IsFree x h s → Changes s x.home.0 (MakeDir (above_of x.target) x.target.location.name x.made x.depth (value_of (slice_index_or x.plan x.home.0 None)))
+makes_dir :
+    (x : NewDir) (h : Held) (s : Scene) → Sound s → IsFree x h s
+    → Changes s x.home.0
+    (MakeDir (above_of x.target) x.target.location.name x.made x.depth
+    (value_of (slice_index_or x.plan x.home.0 None)))
 makes_dir x h s sound k =
     let at : x.home.0 ≡ home x.made = sym (made_home x h s sound k.may) in
     let e = depth_is (above_of x.target) k.may.above s k.may.deep in
@@ -157,7 +184,11 @@ makes_dir x h s sound k =
     }
 
 -- elsewhere it adds a copy of it
-makes_copy : (x : NewDir) (h : Held) (b : BrickNo) (line : ℕ) (s : Scene) → Sound s → Copies x h b line s → Changes s b.0 (MakeDir (above_of x.target) x.target.location.name x.made x.depth (value_of (slice_index_or x.plan b.0 None)))
+makes_copy :
+    (x : NewDir) (h : Held) (b : BrickNo) (line : ℕ) (s : Scene) → Sound s → Copies x h b line s
+    → Changes s b.0
+    (MakeDir (above_of x.target) x.target.location.name x.made x.depth
+    (value_of (slice_index_or x.plan b.0 None)))
 makes_copy x h b line s sound k =
     let m = k.made in
     let (on, stands) = m.stands in
@@ -199,7 +230,8 @@ secures_stable x m s t h o = record {
   whole = sees_anew_stable x.learned (above_of x.target) m s t h.whole o;
 }
 
-pub measures_stable : (x : Round) (k : Held) (s t : Scene) → Measures x k s → Rely s t → Measures x k t
+pub measures_stable :
+    (x : Round) (k : Held) (s t : Scene) → Measures x k s → Rely s t → Measures x k t
 measures_stable x k s t h o = record {
   comes = comes_stable x.target s t h.comes o;
   held = held_at_stable x.target.location k s t h.held o;
@@ -213,7 +245,9 @@ renews_stable x m s t h o = record { comes = comes_stable x s t h.comes o; scope
 deep_stable : (g : Gfid) (deep : ℕ) (s t : Scene) → IsDeep g deep s → Rely s t → IsDeep g deep t
 deep_stable g deep s t h o = record { descent = h.descent; is = o.made g h.descent h.is; depth = h.depth }
 
-plan_stable : (x : NewDir) (s t : Scene) → x.plan ≡ planned s.history.weights x.made → Rely s t → x.plan ≡ planned t.history.weights x.made
+plan_stable :
+    (x : NewDir) (s t : Scene) → x.plan ≡ planned s.history.weights x.made → Rely s t
+    → x.plan ≡ planned t.history.weights x.made
 plan_stable x s t e o = e ∙ ap (λ (ws : List ℕ). planned ws x.made) (sym o.weights)
 
 may_make_stable : (x : NewDir) (h : Held) (s t : Scene) → MayMake x h s → Rely s t → MayMake x h t
@@ -230,11 +264,14 @@ may_make_stable x h s t k o = record {
   holder = k.holder;
 }
 
-clears_stable : (m : Sweep) (x : NewDir) (h : Held) (s t : Scene) → Clears m x h s → Rely s t → Clears m x h t
+clears_stable :
+    (m : Sweep) (x : NewDir) (h : Held) (s t : Scene) → Clears m x h s → Rely s t → Clears m x h t
 clears_stable m x h s t k o = record { name = k.name; may = may_make_stable x h s t k.may o }
 
 -- a directory that is held keeps its copies
-parents_stable : (x : Target) (h : Held) (s t : Scene) → HoldsDir s (above_of x) → HasParents x h s → Rely s t → HasParents x h t
+parents_stable :
+    (x : Target) (h : Held) (s t : Scene) → HoldsDir s (above_of x) → HasParents x h s → Rely s t
+    → HasParents x h t
 parents_stable x h s t holds k o b l mark = by (dir_at s.disk b (above_of x)) refl (k b (let c = o.count in omega arith) mark)
   where
     by : (r : Option DirRecord) → dir_at s.disk b (above_of x) ≡ r → is_some r ≡ true → is_some (dir_at t.disk b (above_of x)) ≡ true
@@ -242,10 +279,14 @@ parents_stable x h s t holds k o b l mark = by (dir_at s.disk b (above_of x)) re
     by (Some r) e q = let (copy, there, stays) = o.dirs (above_of x) b r holds e in ap is_some there
 
 -- its name stays its, and bricks may get copies
-folder_grows : (g : Gfid) (on : ℕ → Bool) (e : Entry) (k : NameShape) (t : Scene) → Grows (Folder g on) k → NameStands t e k → (more : ℕ → Bool) × NameStands t e (Folder g more)
+folder_grows :
+    (g : Gfid) (on : ℕ → Bool) (e : Entry) (k : NameShape) (t : Scene) → Grows (Folder g on) k
+    → NameStands t e k → (more : ℕ → Bool) × NameStands t e (Folder g more)
 folder_grows g on e k t (more, is, grows) stands = (more, subst (λ (h : NameShape). NameStands t e h) is stands)
 
-pub made_stable : (x : NewDir) (h : Held) (line : ℕ) (s t : Scene) → IsMade x h line s → Rely s t → IsMade x h line t
+pub made_stable :
+    (x : NewDir) (h : Held) (line : ℕ) (s t : Scene) → IsMade x h line s → Rely s t
+    → IsMade x h line t
 made_stable x h line s t k o =
     let name = holds_location x.target.location h.scope s k.scope k.order k.holds in
     let (on, stands) = k.stands in
@@ -264,7 +305,9 @@ made_stable x h line s t k o =
       earned = may_answer_stable (made_at x.made line) s t k.earned o;
     }
 
-pub copies_stable : (x : NewDir) (h : Held) (b : BrickNo) (line : ℕ) (s t : Scene) → Copies x h b line s → Rely s t → Copies x h b line t
+pub copies_stable :
+    (x : NewDir) (h : Held) (b : BrickNo) (line : ℕ) (s t : Scene) → Copies x h b line s → Rely s t
+    → Copies x h b line t
 copies_stable x h b line s t k o = record {
   made = made_stable x h line s t k.made o;
   there = let w = k.there in let c = o.count in omega arith;

@@ -68,7 +68,8 @@ pub record Resolves (l : Location) (p : Prepared) (s : Scene) : Type 0 where
   pub call : IsRmdir l s
   pub memory : IsPairRoom l.bricks l.directory l.name p
 
--- the call is the rmdir of this name, and the directory that is to go is not that in which it stands
+-- the call is the rmdir of this name, and the directory
+-- that is to go is not that in which it stands
 pub record Removes (x : Removal) (s : Scene) : Type 0 where
   pub call : IsRmdir x.location s
   pub apart : x.directory ≢ x.location.directory
@@ -81,16 +82,16 @@ removal_scope x = pair_scope x.location.bricks x.location.directory x.directory 
 abbrev pub IsNamed : Removal → Scene → Type 0
 IsNamed x s = s.history.tree.names (entry_at x.location) ≡ Some (IsDir x.directory)
 
--- the section is that of the two directories, and there is memory for another lookup; and the name is
--- the directory's still, if the call was alone
+-- the section is that of the two directories, and there is memory for another
+-- lookup; and the name is the directory's still, if the call was alone
 pub record Secures (x : Removal) (m : Section) (room : Prepared) (s : Scene) : Type 0 where
   pub removes : Removes x s
   pub scope : section_scope m ≡ removal_scope x
   pub memory : IsRoom x.location room s
   pub named : IfAlone (IsNamed x) s
 
--- all locks are held, and the name stands as the directory, with copies on these bricks; the call has
--- done no step
+-- all locks are held, and the name stands as the directory,
+-- with copies on these bricks; the call has done no step
 pub record Holds (x : Removal) (h : Held) (s : Scene) : Type 0 where
   pub removes : Removes x s
   pub scope : h.scope ≡ removal_scope x
@@ -243,13 +244,15 @@ removal_held x h room =
     else Releasing x.location (release_of h) room (held_layout h (entry_at x.location))
 
 -- a section that is not held has given back its locks
-abbrev pub rmdir_opened : Removal → Prepared → Option (List (Option Range)) → Opened → Turn Rmdir Ended
+abbrev pub rmdir_opened :
+    Removal → Prepared → Option (List (Option Range)) → Opened → Turn Rmdir Ended
 rmdir_opened x room learned (Holding h) = Go (removal_held x h room)
 rmdir_opened x room learned (IsGone g at) = Done (record { finish = gone_at at; layout = learned })
 rmdir_opened x room learned (IsStopped e) =
     Done (record { finish = fault_finish e; layout = learned })
 
-abbrev pub rmdir_secured : Removal → Prepared → Option (List (Option Range)) → Turn Section Opened → Turn Rmdir Ended
+abbrev pub rmdir_secured :
+    Removal → Prepared → Option (List (Option Range)) → Turn Section Opened → Turn Rmdir Ended
 rmdir_secured x room learned (Go m) = Go (Securing x m room learned)
 rmdir_secured x room learned (Done out) = rmdir_opened x room learned out
 
@@ -314,7 +317,8 @@ drop_unless (Some e) x h b r at = closed x h (fault_finish e)
 drop_unless None x h b r at = drop_told x h b r at
 
 -- the locks were given back, and the name is looked up once more, by the layout that was read
-abbrev pub rmdir_released : Location → Prepared → List (Option Range) → Turn Release Prepared → Turn Rmdir Ended
+abbrev pub rmdir_released :
+    Location → Prepared → List (Option Range) → Turn Release Prepared → Turn Rmdir Ended
 rmdir_released l room layout (Go m) = Go (Releasing l m room layout)
 rmdir_released l room layout (Done p) = Go (Resolving (lookup_again room l (Some layout)) p)
 

@@ -55,10 +55,12 @@ use Rattle.dht_dirops.specs.declared.rmdir.Rmdir.TheVariants.{Resolving, Securin
 pub holds_alone : (x : Removal) (h : Held) (s : Scene) → Holds x h s → HoldsAlone s x.directory
 holds_alone x h s k = pair_alone x.location.bricks x.location.directory x.directory x.location.name h.scope s k.scope k.holds
 
-pub holds_entry : (x : Removal) (h : Held) (s : Scene) → Holds x h s → HoldsName s (entry_at x.location)
+pub holds_entry :
+    (x : Removal) (h : Held) (s : Scene) → Holds x h s → HoldsName s (entry_at x.location)
 holds_entry x h s k = pair_name_held x.location.bricks x.location.directory x.directory x.location.name h.scope s k.scope k.removes.apart k.holds
 
-pub holds_bricks : (x : Removal) (h : Held) (s : Scene) → Sound s → Holds x h s → s.disk.count ≡ x.location.bricks
+pub holds_bricks :
+    (x : Removal) (h : Held) (s : Scene) → Sound s → Holds x h s → s.disk.count ≡ x.location.bricks
 holds_bricks x h s sound k = bricks_are h.scope s sound k.fresh.scope ∙ ap (λ (w : Scoped). w.bricks) k.scope
 
 -- ---- what the tree says
@@ -67,23 +69,33 @@ holds_bricks x h s sound k = bricks_are h.scope s sound k.fresh.scope ∙ ap (λ
 bare_in_tree : (g : Gfid) (s : Scene) → IsBare g s → IsEmptyIn s.history.tree g
 bare_in_tree g s h n = (h n).node
 
-says_rmdir : (t : Tree) (d : Gfid) (n : List ℕ) (g x : Gfid) → t.dirs d ≡ true → t.names (d, n) ≡ Some (IsDir g) → t.listings g ≡ [] → says t (Called d n) x ≡ Do (RemoveDir d n ∷ []) Done
+says_rmdir :
+    (t : Tree) (d : Gfid) (n : List ℕ) (g x : Gfid) → t.dirs d ≡ true
+    → t.names (d, n) ≡ Some (IsDir g) → t.listings g ≡ []
+    → says t (Called d n) x ≡ Do (RemoveDir d n ∷ []) Done
 says_rmdir t d n g x e k l =
     ap (λ (b : Bool). if b then removed t d n (t.names (d, n)) else Refuse Estale) e
     ∙ (ap (λ (o : Option Node). removed t d n o) k
     ∙ ap (λ (xs : List (List ℕ)). removed_dir d n xs) l)
 
 -- the directory in which the name stands is one of the tree
-pub removal_housed : (x : Removal) (h : Held) (s : Scene) → Sound s → Holds x h s → s.history.tree.dirs x.location.directory ≡ true
+pub removal_housed :
+    (x : Removal) (h : Held) (s : Scene) → Sound s → Holds x h s
+    → s.history.tree.dirs x.location.directory ≡ true
 removal_housed x h s sound k = sound.kept.tree.housed (entry_at x.location) (ap is_some k.stands.node)
 
-pub removal_says : (x : Removal) (h : Held) (s : Scene) (g : Gfid) → Sound s → Holds x h s → IsBare x.directory s → says s.history.tree s.mine.call g ≡ Do (RemoveDir x.location.directory x.location.name ∷ []) Done
+pub removal_says :
+    (x : Removal) (h : Held) (s : Scene) (g : Gfid) → Sound s → Holds x h s → IsBare x.directory s
+    → says s.history.tree s.mine.call g
+    ≡ Do (RemoveDir x.location.directory x.location.name ∷ []) Done
 removal_says x h s g sound k bare =
     ap (λ (c : Call Gfid). says s.history.tree c g) k.removes.call
     ∙ says_rmdir s.history.tree x.location.directory x.location.name x.directory g (removal_housed x h s sound k) k.stands.node
     (empty_listing s.history.tree x.directory sound.kept.tree (bare_in_tree x.directory s bare))
 
-wants_removal : (x : Removal) (h : Held) (s : Scene) → Sound s → Holds x h s → IsBare x.directory s → Wants s (RemoveDir x.location.directory x.location.name)
+wants_removal :
+    (x : Removal) (h : Held) (s : Scene) → Sound s → Holds x h s → IsBare x.directory s
+    → Wants s (RemoveDir x.location.directory x.location.name)
 wants_removal x h s sound k bare = record {
   next = subst (λ (d : Option Deeds). IsNext s.history.tree s.mine.call d (RemoveDir x.location.directory x.location.name)) (sym k.fresh.deeds) ([], (Done, removal_says x h s root sound k bare));
   fits = (x.directory, k.stands.node, bare_in_tree x.directory s bare);
@@ -93,18 +105,25 @@ wants_removal x h s sound k bare = record {
 -- ---- what it may ask
 
 -- a request to a brick that is not the home stands for no step of the tree; one to the home does
-away_wants : (x : Removal) (b : ℕ) (s : Scene) → b ≢ home x.directory → WantsAll s (at_home b x.directory (RemoveDir x.location.directory x.location.name))
+away_wants :
+    (x : Removal) (b : ℕ) (s : Scene) → b ≢ home x.directory
+    → WantsAll s (at_home b x.directory (RemoveDir x.location.directory x.location.name))
 away_wants x b s ne = subst (λ (o : Option TreeStep). WantsAll s o)
     (sym (ap (λ (v : Bool). if v then Some (RemoveDir x.location.directory x.location.name) else None) (false_from_ne_true (nat_eq b (home x.directory)) (λ e. ne ((exact_nat b (home x.directory)).0 e))))) tt
 
-home_wants : (x : Removal) (b : ℕ) (s : Scene) → b ≡ home x.directory → Wants s (RemoveDir x.location.directory x.location.name) → WantsAll s (at_home b x.directory (RemoveDir x.location.directory x.location.name))
+home_wants :
+    (x : Removal) (b : ℕ) (s : Scene) → b ≡ home x.directory
+    → Wants s (RemoveDir x.location.directory x.location.name)
+    → WantsAll s (at_home b x.directory (RemoveDir x.location.directory x.location.name))
 home_wants x b s e wants = subst (λ (o : Option TreeStep). WantsAll s o)
     (sym (ap (λ (v : Bool). if v then Some (RemoveDir x.location.directory x.location.name) else None) ((exact_nat b (home x.directory)).1 e))) wants
 
 bare_slots : (g : Gfid) (s : Scene) → IsBare g s → IsEmpty s g
 bare_slots g s h i n l = (h n).has i l
 
-drops_copy : (x : Removal) (h : Held) (b : BrickNo) (s : Scene) → Sound s → Drops x h b s → Changes s b.0 (DropDir x.location.directory x.location.name x.directory)
+drops_copy :
+    (x : Removal) (h : Held) (b : BrickNo) (s : Scene) → Sound s → Drops x h b s
+    → Changes s b.0 (DropDir x.location.directory x.location.name x.directory)
 drops_copy x h b s sound k = elim (nat_cases b.0 (home x.directory)) [
   | inl e ↦ record {
     holds = (holds_entry x h s k.held, holds_alone x h s k.held);
@@ -149,7 +168,9 @@ removes_stable : (x : Removal) (s t : Scene) → Removes x s → Rely s t → Re
 removes_stable x s t h o = record { call = call_stable x.location s t h.call o; apart = h.apart }
 
 -- a name that I guard stands as it was seen, and a directory has got copies at most
-seen_guarded : (e : Entry) (what : What) (s t : Scene) → Guards s e → StandsSeen e what s → Rely s t → StandsSeen e what t
+seen_guarded :
+    (e : Entry) (what : What) (s t : Scene) → Guards s e → StandsSeen e what s → Rely s t
+    → StandsSeen e what t
 seen_guarded e Absent s t g h o =
     let q = o.names e Bare g h in
     subst (λ (k : NameShape). NameStands t e k) q.1 q.2
@@ -160,10 +181,14 @@ seen_guarded e (File f b links) s t g h o =
     let q = o.names e (Plain b.0 f) g h in
     subst (λ (k : NameShape). NameStands t e k) q.1 q.2
 
-saw_guarded : (e : Entry) (limit : ℕ) (shown : What) (s t : Scene) → Guards s e → Saw e limit shown s → Rely s t → Saw e limit shown t
+saw_guarded :
+    (e : Entry) (limit : ℕ) (shown : What) (s t : Scene) → Guards s e → Saw e limit shown s
+    → Rely s t → Saw e limit shown t
 saw_guarded e limit shown s t g h o = record { full = h.full; stands = seen_guarded e h.full s t g h.stands o; shows = h.shows }
 
-pub nothing_stable : (g : Gfid) (limit : ℕ) (s t : Scene) → HoldsAlone s g → ShowNothing g limit s → Rely s t → ShowNothing g limit t
+pub nothing_stable :
+    (g : Gfid) (limit : ℕ) (s t : Scene) → HoldsAlone s g → ShowNothing g limit s → Rely s t
+    → ShowNothing g limit t
 nothing_stable g limit s t alone h o n = saw_guarded (g, n) limit Absent s t (inr alone) (h n) o
 
 pub bare_stable : (g : Gfid) (s t : Scene) → HoldsAlone s g → IsBare g s → Rely s t → IsBare g t
@@ -180,14 +205,19 @@ holds_stable x h s t k o = record {
   stands = o.both (entry_at x.location) x.directory k.on (holds_entry x h s k) (holds_alone x h s k) k.stands;
 }
 
-pub same_copies : (x : Removal) (h : Held) (s t : Scene) (k : Holds x h s) (o : Rely s t) → (holds_stable x h s t k o).on ≡ k.on
+pub same_copies :
+    (x : Removal) (h : Held) (s t : Scene) (k : Holds x h s) (o : Rely s t)
+    → (holds_stable x h s t k o).on ≡ k.on
 unfolding holds_stable
 same_copies x h s t k o = refl
 
-resolves_stable : (l : Location) (p : Prepared) (s t : Scene) → Resolves l p s → Rely s t → Resolves l p t
+resolves_stable :
+    (l : Location) (p : Prepared) (s t : Scene) → Resolves l p s → Rely s t → Resolves l p t
 resolves_stable l p s t h o = record { call = call_stable l s t h.call o; memory = h.memory }
 
-secures_stable : (x : Removal) (m : Section) (room : Prepared) (s t : Scene) → Secures x m room s → Rely s t → Secures x m room t
+secures_stable :
+    (x : Removal) (m : Section) (room : Prepared) (s t : Scene) → Secures x m room s → Rely s t
+    → Secures x m room t
 secures_stable x m room s t h o = record {
   removes = removes_stable x s t h.removes o;
   scope = h.scope;
@@ -195,7 +225,9 @@ secures_stable x m room s t h o = record {
   named = if_alone_stable (IsNamed x) (λ u w same k. ap (λ (p : Tree). p.names (entry_at x.location)) same.tree ∙ k) s t h.named o;
 }
 
-reopens_stable : (l : Location) (m : Release) (room : Prepared) (s t : Scene) → Reopens l m room s → Rely s t → Reopens l m room t
+reopens_stable :
+    (l : Location) (m : Release) (room : Prepared) (s t : Scene) → Reopens l m room s → Rely s t
+    → Reopens l m room t
 reopens_stable l m room s t h o = record {
   call = call_stable l s t h.call o;
   scope = h.scope;

@@ -6,8 +6,8 @@
 //!   Its own lock is taken alone, beside the lock of the directory above it, which is shared.
 //!
 //! Proved: each request of theirs is permitted where it is sent; an answer is what the tree says at
-//! the line that it gives; they learn the layout that their section read, and answer the first error
-//! of a brick.
+//! the line that it gives; they learn the layout that their section read, and answer the first
+//! error of a brick.
 #![tactic(auto)]
 
 pub mod mkdir;

@@ -1,5 +1,6 @@
-//! Mkdir: under the locks of its name, a call that makes a directory where no brick has one. Linktos
-//! of the name go first; and where no brick can hold the name yet, its directory is healed before.
+//! Mkdir: under the locks of its name, a call that makes a directory where no brick has one.
+//! Linktos of the name go first; and where no brick can hold the name yet, its directory is healed
+//! before.
 
 ghost use Rattle.std.specs.Prelude.{◌≡◌, ◌<◌, IfOk, option_map};
 ghost use Rattle.dht_types.specs.Tree.{deepest};
@@ -252,8 +253,8 @@ fn made(new: NewDir, held: Held, reply: &Reply, at: u64) -> Mkdir
     }
 }
 
-/// After another brick was asked to make its copy. Something may stand at the name there by now: that
-/// is the copy that a heal has made meanwhile.
+/// After another brick was asked to make its copy. Something may stand at the name there by now:
+/// that is the copy that a heal has made meanwhile.
 fn copied(new: NewDir, held: Held, brick: BrickNo, line: u64, reply: &Reply) -> Mkdir
     ensures { result ≡ mkdir_copied new held brick line reply.now }
 {
@@ -268,8 +269,8 @@ fn copied(new: NewDir, held: Held, brick: BrickNo, line: u64, reply: &Reply) -> 
 }
 
 impl Mkdir {
-    /// The mkdir of a directory at a name, by the call of this origin, in a volume of so many bricks.
-    /// It takes the memory that the mkdir will need, beside that of a heal.
+    /// The mkdir of a directory at a name, by the call of this origin, in a volume of so many
+    /// bricks. It takes the memory that the mkdir will need, beside that of a heal.
     pub fn begin(
         alloc: Global,
         bricks: u16,

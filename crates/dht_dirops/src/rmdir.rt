@@ -1,6 +1,6 @@
-//! Rmdir: a call that takes a directory's name away, and with it the directory. Under the shared lock
-//! of the directory above, the lock of the name, and that of the directory alone, all bricks are asked
-//! whether a name stands in it; then each drops its copy, its home last.
+//! Rmdir: a call that takes a directory's name away, and with it the directory. Under the shared
+//! lock of the directory above, the lock of the name, and that of the directory alone, all bricks
+//! are asked whether a name stands in it; then each drops its copy, its home last.
 
 ghost use Rattle.std.specs.Prelude.{◌≡◌, ◌≤◌, ◌+◌, ◌*◌, IfOk};
 ghost use Rattle.dht_section.specs.Again.{IsUnanswered};
@@ -231,8 +231,8 @@ fn inspect_told(removal: Removal, held: Held, brick: BrickNo, reply: &Reply, at:
     }
 }
 
-/// Whether a brick that is not the home has no copy of the directory any more: it has dropped it, or
-/// had none.
+/// Whether a brick that is not the home has no copy of the directory any more: it has dropped it,
+/// or had none.
 fn is_dropped(reply: &Reply) -> bool
     ensures { result ≡ is_dropped reply.now }
 {

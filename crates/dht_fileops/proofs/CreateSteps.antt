@@ -105,13 +105,18 @@ Went m r t turn = MatchTurn turn (λ n. GoesOn (create_stage m) (create_stage n)
 
 -- ---- the file
 
-same_made : (n k : ℕ) (c d : ClientNo) (x y : CallNo) (h : ℕ) → k ≡ n → d ≡ c → y ≡ x → made n c x h ≡ made k d y h
+same_made :
+    (n k : ℕ) (c d : ClientNo) (x y : CallNo) (h : ℕ) → k ≡ n → d ≡ c → y ≡ x
+    → made n c x h ≡ made k d y h
 same_made n k c d x y h e f g = ap (λ (i : ℕ). made i c x h) (sym e) ∙ (ap (λ (i : ClientNo). made k i x h) (sym f) ∙ ap (λ (i : CallNo). made k d i h) (sym g))
 
-comes_moved : (x : Target) (s t : Scene) (a : Ask) (r : Reply) → ComesOf x s → Guarantee s a r t → ComesOf x t
+comes_moved :
+    (x : Target) (s t : Scene) (a : Ask) (r : Reply) → ComesOf x s → Guarantee s a r t → ComesOf x t
 comes_moved x s t a r h m = record { call = m.mine.call ∙ h.call; origin_is = comes_from_moved x.origin s t a r h.origin_is m }
 
-makes_moved : (x : NewFile) (l : Location) (s t : Scene) (a : Ask) (r : Reply) → Makes x l s → Guarantee s a r t → Makes x l t
+makes_moved :
+    (x : NewFile) (l : Location) (s t : Scene) (a : Ask) (r : Reply) → Makes x l s
+    → Guarantee s a r t → Makes x l t
 makes_moved x l s t a r h m = record {
   call = m.mine.call ∙ h.call;
   there = let w = h.there in let c = m.disk.count in omega arith;
@@ -120,7 +125,9 @@ makes_moved x l s t a r h m = record {
 }
 
 -- the file of the call's origin is the call's own
-makes_own : (x : Target) (b : ℕ) (s : Scene) → b < s.disk.count → ComesOf x s → Makes (new_file x.origin b) x.location s
+makes_own :
+    (x : Target) (b : ℕ) (s : Scene) → b < s.disk.count → ComesOf x s
+    → Makes (new_file x.origin b) x.location s
 makes_own x b s there h =
     let o = h.origin_is in
     record {
@@ -131,7 +138,9 @@ makes_own x b s there h =
     }
 
 -- under both locks the file may go to the name's holder
-may_make : (x : Target) (h : Held) (b : ℕ) (s : Scene) → Sound s → ComesOf x s → IsHeldAt x.location h s → ready_holder x.location h ≡ Some b → MayMake (new_file x.origin b) x.location h s
+may_make :
+    (x : Target) (h : Held) (b : ℕ) (s : Scene) → Sound s → ComesOf x s → IsHeldAt x.location h s
+    → ready_holder x.location h ≡ Some b → MayMake (new_file x.origin b) x.location h s
 may_make x h b s sound comes k e = record {
   makes = makes_own x b s (ready_there x.location h b s sound k e) comes;
   kept = held_kept x.location h s k;
@@ -141,10 +150,15 @@ may_make x h b s sound comes k e = record {
 -- ---- the section
 
 -- a name that is there is told to be
-says_exists : (p : Tree) (d : Gfid) (n : List ℕ) (node : Node) (g : Gfid) → p.dirs d ≡ true → p.names (d, n) ≡ Some node → answer_of (says p (Called d n) g) ≡ Some (Fault Eexist)
+says_exists :
+    (p : Tree) (d : Gfid) (n : List ℕ) (node : Node) (g : Gfid) → p.dirs d ≡ true
+    → p.names (d, n) ≡ Some node → answer_of (says p (Called d n) g) ≡ Some (Fault Eexist)
 says_exists p d n node g e k = ap (λ b. answer_of (if b then created d n g (p.names (d, n)) else Refuse Estale)) e ∙ ap (λ (o : Option Node). answer_of (created d n g o)) k
 
-exists_earned : (bricks : ℕ) (x : Target) (y : Looked) (node : Node) (s : Scene) → node_seen y.sight.what ≡ Some node → ComesOf x s → s.mine.deeds ≡ None → IsLooked bricks (entry_at x.location) y s → MayAnswer (refused_at Eexist y.at) s
+exists_earned :
+    (bricks : ℕ) (x : Target) (y : Looked) (node : Node) (s : Scene)
+    → node_seen y.sight.what ≡ Some node → ComesOf x s → s.mine.deeds ≡ None
+    → IsLooked bricks (entry_at x.location) y s → MayAnswer (refused_at Eexist y.at) s
 exists_earned bricks x y node s e comes fresh k = record {
   point = y.at;
   printed = refl;
@@ -232,10 +246,21 @@ module _ (x : Target) (learned : Option (List (Option Range))) (room : HealRoom)
   held_by (what.Dir g) e = exists_step (IsDir g) (ap node_seen e)
   held_by (what.File f b links) e = exists_step (IsFile f) (ap node_seen e)
 
-refuses_create : (l : Location) (p : Tree) (g : Gfid) → p.dirs l.directory ≡ false → answer_of (says p (Called l.directory l.name) g) ≡ Some (Fault Estale)
+refuses_create :
+    (l : Location) (p : Tree) (g : Gfid) → p.dirs l.directory ≡ false
+    → answer_of (says p (Called l.directory l.name) g) ≡ Some (Fault Estale)
 refuses_create l p g e = ap (λ b. answer_of (if b then created l.directory l.name g (p.names (entry_at l)) else Refuse Estale)) e
 
-secured_step : (x : Target) (learned : Option (List (Option Range))) (room : HealRoom) (m : Section) (turn : Turn Section Opened) (r : Reply) (at : ℕ) (s t : Scene) → MatchTurn turn (λ n. GoesOn (section_stage m) (section_stage n) r t) (λ d. EndsIn (section_stage m) (opened_ending d) t) → MatchTurn turn (λ n. SeesAnew learned x.location.directory n t) (λ d. EndsAnew learned x.location.directory d t) → KeepsScope m turn → NamesGone m turn → LeavesUnlocks m turn → Served (create_stage (Securing x learned room m)) r at s t → Went (Securing x learned room m) r t (create_secured x learned room turn)
+secured_step :
+    (x : Target) (learned : Option (List (Option Range))) (room : HealRoom) (m : Section)
+    (turn : Turn Section Opened) (r : Reply) (at : ℕ) (s t : Scene)
+    → MatchTurn turn (λ n. GoesOn (section_stage m) (section_stage n) r t)
+    (λ d. EndsIn (section_stage m) (opened_ending d) t)
+    → MatchTurn turn (λ n. SeesAnew learned x.location.directory n t)
+    (λ d. EndsAnew learned x.location.directory d t)
+    → KeepsScope m turn → NamesGone m turn → LeavesUnlocks m turn
+    → Served (create_stage (Securing x learned room m)) r at s t
+    → Went (Securing x learned room m) r t (create_secured x learned room turn)
 secured_step x learned room m (Go n) r at s t went anew same gone left v =
     let k = v.is_at.knows.1 in
     part_goes_on (section_stage m) (section_stage n) (after_section learned x.location.bricks) (λ s. Secures x learned room m s) (λ s. Secures x learned room n s) r t went
@@ -263,7 +288,13 @@ secured_step x learned room m (Done (IsStopped e)) r at s t went anew same gone 
 -- ---- the heal
 
 -- the section begins anew
-anew_step : (x : Target) (layout : List (Option Range)) (m : Restart) (p : Prepared) (room : HealRoom) (r : Reply) (t : Scene) → ComesOf x t → p.scope ≡ scope_at x.location → EndsIn (restart_stage m) (restarted_ending (Ready p room)) t → GoesOn (create_stage (Restarting x layout m)) (create_stage (Securing x (Some layout) room (begun p))) r t
+anew_step :
+    (x : Target) (layout : List (Option Range)) (m : Restart) (p : Prepared) (room : HealRoom)
+    (r : Reply) (t : Scene)
+    → ComesOf x t → p.scope ≡ scope_at x.location
+    → EndsIn (restart_stage m) (restarted_ending (Ready p room)) t
+    → GoesOn (create_stage (Restarting x layout m))
+    (create_stage (Securing x (Some layout) room (begun p))) r t
 anew_step x layout m p room r t comes same ends =
     let variant = begun_variant x.location p same in
     record {
@@ -280,7 +311,13 @@ anew_step x layout m p room r t comes same ends =
       nearer = λ u. (λ w. omega arith, omega arith);
     }
 
-restarted_step : (x : Target) (layout : List (Option Range)) (m : Restart) (turn : Turn Restart Restarted) (r : Reply) (at : ℕ) (s t : Scene) → MatchTurn turn (λ n. GoesOn (restart_stage m) (restart_stage n) r t) (λ d. EndsIn (restart_stage m) (restarted_ending d) t) → KeepsRestart m turn → Served (create_stage (Restarting x layout m)) r at s t → Went (Restarting x layout m) r t (create_restarted x layout turn)
+restarted_step :
+    (x : Target) (layout : List (Option Range)) (m : Restart) (turn : Turn Restart Restarted)
+    (r : Reply) (at : ℕ) (s t : Scene)
+    → MatchTurn turn (λ n. GoesOn (restart_stage m) (restart_stage n) r t)
+    (λ d. EndsIn (restart_stage m) (restarted_ending d) t)
+    → KeepsRestart m turn → Served (create_stage (Restarting x layout m)) r at s t
+    → Went (Restarting x layout m) r t (create_restarted x layout turn)
 restarted_step x layout m (Go n) r at s t went same v =
     let k = v.is_at.knows.1 in
     part_goes_on (restart_stage m) (restart_stage n) (2 * x.location.bricks + 6) (λ s. Renews x m s) (λ s. Renews x n s) r t went (record { comes = comes_moved x s t _ r k.comes v.moved; scope = same ∙ k.scope })
@@ -292,12 +329,16 @@ restarted_step x layout m (Done (Stopped e)) r at s t went same v = record { cla
 -- ---- the sweep
 
 -- an answer that is earned is given once the locks are given back
-closing_knows : (l : Location) (h : Held) (f : Finish) (s t : Scene) (a : Ask) (r : Reply) → IsKept l h s → MayAnswer f t → Guarantee s a r t → (closing_stage (closing_of h f)).knows t
+closing_knows :
+    (l : Location) (h : Held) (f : Finish) (s t : Scene) (a : Ask) (r : Reply) → IsKept l h s
+    → MayAnswer f t → Guarantee s a r t → (closing_stage (closing_of h f)).knows t
 closing_knows l h f s t a r k earned m =
     let some = k.order.some in
     record { order = k.order; scope = scope_moved h.scope s t a r k.fresh.scope m; within = omega arith; earned = earned }
 
-may_kept : (m : Sweep) (x : NewFile) (l : Location) (h : Held) (r : Reply) (at : ℕ) (s t : Scene) → fault_of r ≡ None → Served (create_stage (Sweeping m x l h)) r at s t → MayMake x l h t
+may_kept :
+    (m : Sweep) (x : NewFile) (l : Location) (h : Held) (r : Reply) (at : ℕ) (s t : Scene)
+    → fault_of r ≡ None → Served (create_stage (Sweeping m x l h)) r at s t → MayMake x l h t
 may_kept m x l h r at s t z v =
     let k = v.is_at.knows.1 in
     record {
@@ -307,10 +348,21 @@ may_kept m x l h r at s t z v =
       holder = k.may.holder;
     }
 
-sweep_some : (m : Sweep) (h : Held) (s : Scene) → Sweeps None m s → 0 < (sweep_stage (held_locks h) None m).variant
+sweep_some :
+    (m : Sweep) (h : Held) (s : Scene) → Sweeps None m s
+    → 0 < (sweep_stage (held_locks h) None m).variant
 sweep_some m h s w = let l = w.there in omega arith
 
-cleared_step : (m : Sweep) (x : NewFile) (l : Location) (h : Held) (turn : Turn Sweep (Option Errno)) (r : Reply) (at : ℕ) (s t : Scene) → MatchTurn turn (λ n. GoesOn (sweep_stage (held_locks h) None m) (sweep_stage (held_locks h) None n) r t) (λ d. EndsIn (sweep_stage (held_locks h) None m) (part_ending (held_locks h) (IsSwept m.location None) d) t) → EndsByFault r turn → KeepsLocation m turn → Served (create_stage (Sweeping m x l h)) r at s t → Went (Sweeping m x l h) r t (create_cleared x l h turn)
+cleared_step :
+    (m : Sweep) (x : NewFile) (l : Location) (h : Held) (turn : Turn Sweep (Option Errno))
+    (r : Reply) (at : ℕ) (s t : Scene)
+    → MatchTurn turn
+    (λ n. GoesOn (sweep_stage (held_locks h) None m) (sweep_stage (held_locks h) None n) r t)
+    (λ d.
+    EndsIn (sweep_stage (held_locks h) None m)
+    (part_ending (held_locks h) (IsSwept m.location None) d) t)
+    → EndsByFault r turn → KeepsLocation m turn → Served (create_stage (Sweeping m x l h)) r at s t
+    → Went (Sweeping m x l h) r t (create_cleared x l h turn)
 cleared_step m x l h (Go n) r at s t went noted same v = part_goes_on (sweep_stage (held_locks h) None m) (sweep_stage (held_locks h) None n) (suc (last_lock h.scope) + 1) (λ s. Clears m x l h s) (λ s. Clears n x l h s) r t went (record { name = same ∙ v.is_at.knows.1.name; may = may_kept m x l h r at s t noted v })
 cleared_step m x l h (Done None) r at s t went noted same v =
     let some = sweep_some m h s v.is_at.knows.0 in
@@ -324,14 +376,20 @@ cleared_step m x l h (Done (Some e)) r at s t went noted same v =
 -- ---- the create
 
 -- it ends with an answer that it has earned
-closed_step : (x : NewFile) (l : Location) (h : Held) (f : Finish) (r : Reply) (at : ℕ) (s t : Scene) → MayAnswer f t → Served (create_stage (Creating x l h)) r at s t → GoesOn (create_stage (Creating x l h)) (create_stage (closed l h f)) r t
+closed_step :
+    (x : NewFile) (l : Location) (h : Held) (f : Finish) (r : Reply) (at : ℕ) (s t : Scene)
+    → MayAnswer f t → Served (create_stage (Creating x l h)) r at s t
+    → GoesOn (create_stage (Creating x l h)) (create_stage (closed l h f)) r t
 closed_step x l h f r at s t earned v = record {
   claims = claims_more _ r at s t _ v (λ b key i. i);
   knows = closing_knows l h f s t _ r v.is_at.knows.may.kept earned v.moved;
   nearer = λ u. (λ w. omega arith, omega arith);
 }
 
-made_earned : (x : NewFile) (l : Location) (h : Held) (r : Reply) (at : ℕ) (s t : Scene) → is_carried (reply_kind r) ≡ true → Served (create_stage (Creating x l h)) r at s t → MayAnswer (made_at x.file at) t
+made_earned :
+    (x : NewFile) (l : Location) (h : Held) (r : Reply) (at : ℕ) (s t : Scene)
+    → is_carried (reply_kind r) ≡ true → Served (create_stage (Creating x l h)) r at s t
+    → MayAnswer (made_at x.file at) t
 made_earned x l h r at s t e v =
     let free : IsFree x l h s = v.is_at.knows in
     let m = v.moved in
@@ -351,7 +409,8 @@ made_earned x l h r at s t e v =
       tells = subst (λ (d : Option Deeds). Tells t.history t.mine.call d at (Made x.file)) (sym deeds) (sym line, free_says x l h s v.before free);
     }
 
--- the holder has neither the name, nor a linkto of it, nor the file, so a create that finds it up is carried out
+-- the holder has neither the name, nor a linkto of it, nor
+-- the file, so a create that finds it up is carried out
 bare_main : (m : Option Main) → visible m ≡ None → is_linkto m ≡ false → m ≡ None
 bare_main None e k = refl
 bare_main (Some (Dir g)) e k = absurd (let z : Some (Dir g) ≡ None = e in cc)
@@ -367,14 +426,18 @@ bare_slot p e k =
 free_if : (p : Slot) (o : Option Record) → p ≡ bare → o ≡ None → (is_bare p && is_none o) ≡ true
 free_if p o e k = ap (λ (x : Slot). is_bare x && is_none o) e ∙ ap (λ (y : Option Record). is_bare bare && is_none y) k
 
-no_file : (x : NewFile) (l : Location) (h : Held) (s : Scene) → Sound s → MayMake x l h s → file_at s.disk x.holder.0 x.file ≡ None
+no_file :
+    (x : NewFile) (l : Location) (h : Held) (s : Scene) → Sound s → MayMake x l h s
+    → file_at s.disk x.holder.0 x.file ≡ None
 no_file x l h s sound k = by (file_at s.disk x.holder.0 x.file) refl
   where
     by : (o : Option Record) → file_at s.disk x.holder.0 x.file ≡ o → o ≡ None
     by None e = refl
     by (Some r) e = absurd (file_unused x l h s sound k (ByRecord x.holder.0 r k.makes.there e))
 
-carried_out : (x : NewFile) (l : Location) (h : Held) (r : Reply) (s t : Scene) → Sound s → fault_of r ≡ None → IsFree x l h s → Guarantee s (create_stage (Creating x l h)).asks r t → r ≡ reply.Ok Nothing
+carried_out :
+    (x : NewFile) (l : Location) (h : Held) (r : Reply) (s t : Scene) → Sound s → fault_of r ≡ None
+    → IsFree x l h s → Guarantee s (create_stage (Creating x l h)).asks r t → r ≡ reply.Ok Nothing
 carried_out x l h r s t sound z k m =
     let there = k.may.makes.there in
     let p : Slot = slot_at s.disk x.holder.0 (entry_at l) in
@@ -382,23 +445,37 @@ carried_out x l h r s t sound z k m =
     row_reply s t _ r m z
     ∙ ap reply_in (slot_carried (Make l.directory l.name x.file) (dir_at s.disk x.holder.0 l.directory) (is_bare p && is_none (file_at s.disk x.holder.0 x.file)) (s.disk.brick x.holder.0) (entry_at l) (with_main p (File x.file None)) (kept_housed l h x.holder.0 s k.may.kept k.may.holder) (free_if p (file_at s.disk x.holder.0 x.file) empty (no_file x l h s sound k.may)))
 
-answered_step : (x : NewFile) (l : Location) (h : Held) (r : Reply) (at : ℕ) (s t : Scene) (v : Bool) → is_carried (reply_kind r) ≡ v → fault_of r ≡ None → Served (create_stage (Creating x l h)) r at s t → GoesOn (create_stage (Creating x l h)) (create_stage (if v then closed l h (made_at x.file at) else Creating x l h)) r t
+answered_step :
+    (x : NewFile) (l : Location) (h : Held) (r : Reply) (at : ℕ) (s t : Scene) (v : Bool)
+    → is_carried (reply_kind r) ≡ v → fault_of r ≡ None
+    → Served (create_stage (Creating x l h)) r at s t
+    → GoesOn (create_stage (Creating x l h))
+    (create_stage (if v then closed l h (made_at x.file at) else Creating x l h)) r t
 answered_step x l h r at s t true e z v = closed_step x l h (made_at x.file at) r at s t (made_earned x l h r at s t e v) v
 answered_step x l h r at s t false e z v = absurd (let q : true ≡ false = sym (ap (λ (y : Reply). is_carried (reply_kind y)) (carried_out x l h r s t v.before z v.is_at.knows v.moved)) ∙ e in cc)
 
-unless_step : (x : NewFile) (l : Location) (h : Held) (r : Reply) (at : ℕ) (s t : Scene) (o : Option Errno) → fault_of r ≡ o → Served (create_stage (Creating x l h)) r at s t → GoesOn (create_stage (Creating x l h)) (create_stage (create_unless o x l h r at)) r t
+unless_step :
+    (x : NewFile) (l : Location) (h : Held) (r : Reply) (at : ℕ) (s t : Scene) (o : Option Errno)
+    → fault_of r ≡ o → Served (create_stage (Creating x l h)) r at s t
+    → GoesOn (create_stage (Creating x l h)) (create_stage (create_unless o x l h r at)) r t
 unless_step x l h r at s t None z v = answered_step x l h r at s t (is_carried (reply_kind r)) refl z v
 unless_step x l h r at s t (Some e) z v = closed_step x l h (fault_finish e) r at s t (fault_earned s t _ r e z v.moved) v
 
 -- ---- the closing
 
-closing_step : (c : Closing) (learned : Option (List (Option Range))) (turn : Turn Closing Finish) (r : Reply) (t : Scene) → MatchTurn turn (λ n. GoesOn (closing_stage c) (closing_stage n) r t) (λ d. EndsIn (closing_stage c) (answered d) t) → Went (Ending c learned) r t (create_closed learned turn)
+closing_step :
+    (c : Closing) (learned : Option (List (Option Range))) (turn : Turn Closing Finish) (r : Reply)
+    (t : Scene)
+    → MatchTurn turn (λ n. GoesOn (closing_stage c) (closing_stage n) r t)
+    (λ d. EndsIn (closing_stage c) (answered d) t)
+    → Went (Ending c learned) r t (create_closed learned turn)
 closing_step c learned (Go n) r t went = went
 closing_step c learned (Done f) r t went = went
 
 -- ---- all of it
 
-pub create_moves : (m : Create) (r : Reply) (at : ℕ) → Moves create_stage ended m r at (create_after m r at)
+pub create_moves :
+    (m : Create) (r : Reply) (at : ℕ) → Moves create_stage ended m r at (create_after m r at)
 create_moves (Securing x learned room m) r at s t v =
     let part = part_served (section_stage m) (after_section learned x.location.bricks) (λ s. Secures x learned room m s) r at s t v in
     secured_step x learned room m (section_after m r at) r at s t (section_moves m r at s t part) (anew_next learned x.location.directory m r at s t part v.is_at.knows.1.whole) (keeps_scope m r at) (names_gone m r at s v.is_at.knows.0) (leaves_unlocks m r at s v.is_at.knows.0) v
@@ -413,51 +490,78 @@ create_moves (Ending c learned) r at s t v = closing_step c learned (closing_aft
 
 -- ---- what it learns
 
-clearing_learned : (o : Option Sweep) (x : NewFile) (l : Location) (h : Held) → create_layout (clearing o x l h) ≡ Some (held_layout h (entry_at l))
+clearing_learned :
+    (o : Option Sweep) (x : NewFile) (l : Location) (h : Held)
+    → create_layout (clearing o x l h) ≡ Some (held_layout h (entry_at l))
 clearing_learned None x l h = refl
 clearing_learned (Some m) x l h = refl
 
-at_learned : (o : Option ℕ) (x : Target) (room : HealRoom) (h : Held) → create_layout (create_at o x room h) ≡ Some (held_layout h (entry_at x.location))
+at_learned :
+    (o : Option ℕ) (x : Target) (room : HealRoom) (h : Held)
+    → create_layout (create_at o x room h) ≡ Some (held_layout h (entry_at x.location))
 at_learned None x room h = refl
 at_learned (Some b) x room h = clearing_learned (first_sweep x.location h) (new_file x.origin b) x.location h
 
-held_learned : (y : What) (x : Target) (room : HealRoom) (h : Held) → create_layout (create_by y x room h) ≡ Some (held_layout h (entry_at x.location))
+held_learned :
+    (y : What) (x : Target) (room : HealRoom) (h : Held)
+    → create_layout (create_by y x room h) ≡ Some (held_layout h (entry_at x.location))
 held_learned what.Absent x room h = at_learned (ready_holder x.location h) x room h
 held_learned (what.Dir g) x room h = refl
 held_learned (what.File f b n) x room h = refl
 
-secured_learns : (x : Target) (learned : Option (List (Option Range))) (room : HealRoom) (m : Section) (turn : Turn Section Opened) (r : Reply) → turn_layout (entry_at x.location) turn ≡ section_taught (entry_at x.location) m r → Learns create_layout create_taught (Securing x learned room m) r (create_secured x learned room turn)
+secured_learns :
+    (x : Target) (learned : Option (List (Option Range))) (room : HealRoom) (m : Section)
+    (turn : Turn Section Opened) (r : Reply)
+    → turn_layout (entry_at x.location) turn ≡ section_taught (entry_at x.location) m r
+    → Learns create_layout create_taught (Securing x learned room m) r
+    (create_secured x learned room turn)
 secured_learns x learned room m (Go n) r e = ap (λ (o : Option (List (Option Range))). either o learned) e
 secured_learns x learned room m (Done (Holding h)) r e = held_learned (held_looked h (entry_at x.location)).sight.what x room h ∙ ap (λ (o : Option (List (Option Range))). either o learned) e
 secured_learns x learned room m (Done (IsGone g at)) r e = refl
 secured_learns x learned room m (Done (IsStopped y)) r e = refl
 
-restarted_learns : (x : Target) (layout : List (Option Range)) (m : Restart) (turn : Turn Restart Restarted) (r : Reply) → Learns create_layout create_taught (Restarting x layout m) r (create_restarted x layout turn)
+restarted_learns :
+    (x : Target) (layout : List (Option Range)) (m : Restart) (turn : Turn Restart Restarted)
+    (r : Reply)
+    → Learns create_layout create_taught (Restarting x layout m) r (create_restarted x layout turn)
 restarted_learns x layout m (Go n) r = refl
 restarted_learns x layout m (Done (Ready p room)) r = refl
 restarted_learns x layout m (Done (Stopped e)) r = refl
 
-swept_learned : (x : NewFile) (l : Location) (h : Held) (fault : Option Errno) → create_layout (create_swept x l h fault) ≡ Some (held_layout h (entry_at l))
+swept_learned :
+    (x : NewFile) (l : Location) (h : Held) (fault : Option Errno)
+    → create_layout (create_swept x l h fault) ≡ Some (held_layout h (entry_at l))
 swept_learned x l h None = refl
 swept_learned x l h (Some e) = refl
 
-cleared_learns : (m : Sweep) (x : NewFile) (l : Location) (h : Held) (turn : Turn Sweep (Option Errno)) (r : Reply) → Learns create_layout create_taught (Sweeping m x l h) r (create_cleared x l h turn)
+cleared_learns :
+    (m : Sweep) (x : NewFile) (l : Location) (h : Held) (turn : Turn Sweep (Option Errno))
+    (r : Reply)
+    → Learns create_layout create_taught (Sweeping m x l h) r (create_cleared x l h turn)
 cleared_learns m x l h (Go n) r = refl
 cleared_learns m x l h (Done fault) r = swept_learned x l h fault
 
-answered_learns : (x : NewFile) (l : Location) (h : Held) (at : ℕ) (v : Bool) → create_layout (if v then closed l h (made_at x.file at) else Creating x l h) ≡ Some (held_layout h (entry_at l))
+answered_learns :
+    (x : NewFile) (l : Location) (h : Held) (at : ℕ) (v : Bool)
+    → create_layout (if v then closed l h (made_at x.file at) else Creating x l h)
+    ≡ Some (held_layout h (entry_at l))
 answered_learns x l h at true = refl
 answered_learns x l h at false = refl
 
-unless_learns : (x : NewFile) (l : Location) (h : Held) (r : Reply) (at : ℕ) (o : Option Errno) → create_layout (create_unless o x l h r at) ≡ Some (held_layout h (entry_at l))
+unless_learns :
+    (x : NewFile) (l : Location) (h : Held) (r : Reply) (at : ℕ) (o : Option Errno)
+    → create_layout (create_unless o x l h r at) ≡ Some (held_layout h (entry_at l))
 unless_learns x l h r at None = answered_learns x l h at (is_carried (reply_kind r))
 unless_learns x l h r at (Some e) = refl
 
-closed_learns : (c : Closing) (learned : Option (List (Option Range))) (turn : Turn Closing Finish) (r : Reply) → Learns create_layout create_taught (Ending c learned) r (create_closed learned turn)
+closed_learns :
+    (c : Closing) (learned : Option (List (Option Range))) (turn : Turn Closing Finish) (r : Reply)
+    → Learns create_layout create_taught (Ending c learned) r (create_closed learned turn)
 closed_learns c learned (Go n) r = refl
 closed_learns c learned (Done f) r = refl
 
-pub create_learns : (m : Create) (r : Reply) (at : ℕ) → Learns create_layout create_taught m r (create_after m r at)
+pub create_learns :
+    (m : Create) (r : Reply) (at : ℕ) → Learns create_layout create_taught m r (create_after m r at)
 create_learns (Securing x learned room m) r at = secured_learns x learned room m (section_after m r at) r (taught_at (entry_at x.location) m r at 0)
 create_learns (Restarting x layout m) r at = restarted_learns x layout m (restart_after m r at) r
 create_learns (Sweeping m x l h) r at = cleared_learns m x l h (sweep_after m r) r
@@ -469,47 +573,75 @@ create_learns (Ending c learned) r at = closed_learns c learned (closing_after c
 abbrev Notes : Create → Reply → Turn Create Ended → Type 0
 Notes m r turn = NotesFault create_fault m (create_stage m).asks.request r turn
 
-clearing_sound : (o : Option Sweep) (x : NewFile) (l : Location) (h : Held) → create_fault (clearing o x l h) ≡ None
+clearing_sound :
+    (o : Option Sweep) (x : NewFile) (l : Location) (h : Held)
+    → create_fault (clearing o x l h) ≡ None
 clearing_sound None x l h = refl
 clearing_sound (Some m) x l h = refl
 
-at_sound : (o : Option ℕ) (x : Target) (room : HealRoom) (h : Held) → create_fault (create_at o x room h) ≡ None
+at_sound :
+    (o : Option ℕ) (x : Target) (room : HealRoom) (h : Held)
+    → create_fault (create_at o x room h) ≡ None
 at_sound None x room h = refl
 at_sound (Some b) x room h = clearing_sound (first_sweep x.location h) (new_file x.origin b) x.location h
 
-held_sound : (y : What) (x : Target) (room : HealRoom) (h : Held) → create_fault (create_by y x room h) ≡ None
+held_sound :
+    (y : What) (x : Target) (room : HealRoom) (h : Held)
+    → create_fault (create_by y x room h) ≡ None
 held_sound what.Absent x room h = at_sound (ready_holder x.location h) x room h
 held_sound (what.Dir g) x room h = refl
 held_sound (what.File f b n) x room h = refl
 
-secured_notes : (x : Target) (learned : Option (List (Option Range))) (room : HealRoom) (m : Section) (turn : Turn Section Opened) (r : Reply) → MatchTurn turn (λ n. section_fault n ≡ fault_now m r) (λ d. opened_fault d ≡ fault_now m r) → Notes (Securing x learned room m) r (create_secured x learned room turn)
+secured_notes :
+    (x : Target) (learned : Option (List (Option Range))) (room : HealRoom) (m : Section)
+    (turn : Turn Section Opened) (r : Reply)
+    → MatchTurn turn (λ n. section_fault n ≡ fault_now m r) (λ d. opened_fault d ≡ fault_now m r)
+    → Notes (Securing x learned room m) r (create_secured x learned room turn)
 secured_notes x learned room m (Go n) r e = section_notes m r (section_fault n) e
 secured_notes x learned room m (Done (Holding h)) r e = held_sound (held_looked h (entry_at x.location)).sight.what x room h ∙ section_notes m r None e
 secured_notes x learned room m (Done (IsGone g at)) r e = section_notes m r None e
 secured_notes x learned room m (Done (IsStopped y)) r e = section_notes m r (Some y) e
 
-restarted_notes : (x : Target) (layout : List (Option Range)) (m : Restart) (turn : Turn Restart Restarted) (r : Reply) → NotesRestart m r turn → Notes (Restarting x layout m) r (create_restarted x layout turn)
+restarted_notes :
+    (x : Target) (layout : List (Option Range)) (m : Restart) (turn : Turn Restart Restarted)
+    (r : Reply)
+    → NotesRestart m r turn → Notes (Restarting x layout m) r (create_restarted x layout turn)
 restarted_notes x layout m (Go n) r e = e
 restarted_notes x layout m (Done (Ready p room)) r e = e
 restarted_notes x layout m (Done (Stopped y)) r e = e
 
-swept_fault : (x : NewFile) (l : Location) (h : Held) (fault : Option Errno) → create_fault (create_swept x l h fault) ≡ part_fault fault
+swept_fault :
+    (x : NewFile) (l : Location) (h : Held) (fault : Option Errno)
+    → create_fault (create_swept x l h fault) ≡ part_fault fault
 swept_fault x l h None = refl
 swept_fault x l h (Some e) = refl
 
-cleared_notes : (m : Sweep) (x : NewFile) (l : Location) (h : Held) (turn : Turn Sweep (Option Errno)) (r : Reply) → EndsByFault r turn → Notes (Sweeping m x l h) r (create_cleared x l h turn)
+cleared_notes :
+    (m : Sweep) (x : NewFile) (l : Location) (h : Held) (turn : Turn Sweep (Option Errno))
+    (r : Reply)
+    → EndsByFault r turn → Notes (Sweeping m x l h) r (create_cleared x l h turn)
 cleared_notes m x l h (Go n) r e = sym e
 cleared_notes m x l h (Done fault) r e = swept_fault x l h fault ∙ (ap part_fault e ∙ fault_errors r)
 
-answered_notes : (x : NewFile) (l : Location) (h : Held) (at : ℕ) (v : Bool) → create_fault (if v then closed l h (made_at x.file at) else Creating x l h) ≡ None
+answered_notes :
+    (x : NewFile) (l : Location) (h : Held) (at : ℕ) (v : Bool)
+    → create_fault (if v then closed l h (made_at x.file at) else Creating x l h) ≡ None
 answered_notes x l h at true = refl
 answered_notes x l h at false = refl
 
-unless_notes : (x : NewFile) (l : Location) (h : Held) (r : Reply) (at : ℕ) (o : Option Errno) → fault_of r ≡ o → create_fault (create_unless o x l h r at) ≡ fault_of r
+unless_notes :
+    (x : NewFile) (l : Location) (h : Held) (r : Reply) (at : ℕ) (o : Option Errno) → fault_of r ≡ o
+    → create_fault (create_unless o x l h r at) ≡ fault_of r
 unless_notes x l h r at None e = answered_notes x l h at (is_carried (reply_kind r)) ∙ sym e
 unless_notes x l h r at (Some y) e = ap part_fault (sym e) ∙ fault_errors r
 
-closed_notes : (c : Closing) (learned : Option (List (Option Range))) (r : Reply) (v : Bool) → Notes (Ending c learned) r (create_closed learned (if v then Go (record { scope = c.scope; place = c.place - 1; finish = c.finish }) else Done c.finish))
+closed_notes :
+    (c : Closing) (learned : Option (List (Option Range))) (r : Reply) (v : Bool)
+    → Notes (Ending c learned) r
+    (create_closed learned
+    (if v
+    then Go (record { scope = c.scope; place = c.place - 1; finish = c.finish })
+    else Done c.finish))
 closed_notes c learned r true = either_none (brick_fault c.finish.answer)
 closed_notes c learned r false = either_none (brick_fault c.finish.answer)
 
@@ -522,10 +654,13 @@ create_notes (Ending c learned) r at = closed_notes c learned r (nat_lt 0 c.plac
 
 -- ---- what it sends again
 
-unless_again : (x : NewFile) (l : Location) (h : Held) (r : Reply) (at : ℕ) → fault_of r ≡ None → is_carried (reply_kind r) ≡ false → create_answered x l h r at ≡ Creating x l h
+unless_again :
+    (x : NewFile) (l : Location) (h : Held) (r : Reply) (at : ℕ) → fault_of r ≡ None
+    → is_carried (reply_kind r) ≡ false → create_answered x l h r at ≡ Creating x l h
 unless_again x l h r at z e = ap (λ (o : Option Errno). create_unless o x l h r at) z ∙ ap (λ (v : Bool). if v then closed l h (made_at x.file at) else Creating x l h) e
 
-pub create_again : (m : Create) (r : Reply) (at : ℕ) → IsUnanswered (create_stage m) r → create_after m r at ≡ Go m
+pub create_again :
+    (m : Create) (r : Reply) (at : ℕ) → IsUnanswered (create_stage m) r → create_after m r at ≡ Go m
 create_again (Securing x learned room m) r at h = absurd (never_unanswered m r h)
 create_again (Restarting x layout m) r at h = ap (create_restarted x layout) (restart_again m r at h)
 create_again (Sweeping m x l k) r at h = ap (create_cleared x l k) (sweep_again (held_locks k) None m r h)
@@ -534,13 +669,17 @@ create_again (Ending c learned) r at h = absurd h.1
 
 -- ---- its beginning
 
-pub first_knows : (bricks : ℕ) (d : Gfid) (n : List ℕ) (o : Origin) (room : HealRoom) (s : Scene) → MayCreate bricks d n o room s → (create_stage (first_create bricks d n o room)).knows s
+pub first_knows :
+    (bricks : ℕ) (d : Gfid) (n : List ℕ) (o : Origin) (room : HealRoom) (s : Scene)
+    → MayCreate bricks d n o room s → (create_stage (first_create bricks d n o room)).knows s
 first_knows bricks d n o room s h = (
   one_knows bricks d Shared n s (one_fresh bricks d Shared n s h.count h.home h.deeds),
   record { comes = h.comes; scope = refl; memory = h.memory; whole = tt },
 )
 
-pub first_starts : (bricks : ℕ) (d : Gfid) (n : List ℕ) (o : Origin) (room : HealRoom) → StartsCreate bricks d (create_stage (first_create bricks d n o room))
+pub first_starts :
+    (bricks : ℕ) (d : Gfid) (n : List ℕ) (o : Origin) (room : HealRoom)
+    → StartsCreate bricks d (create_stage (first_create bricks d n o room))
 first_starts bricks d n o room =
     let x = starts bricks d Shared n in
     let v = x.variant in

@@ -71,7 +71,8 @@ pub record Makes (x : NewFile) (l : Location) (s : Scene) : Type 0 where
   pub small : s.mine.number.0 < 2 ^ 64
 
 -- the section is that of the name, and the call is of this origin
-pub record Secures (x : Target) (learned : Option (List (Option Range))) (room : HealRoom) (m : Section) (s : Scene) : Type 0 where
+pub record Secures (x : Target) (learned : Option (List (Option Range))) (room : HealRoom)
+    (m : Section) (s : Scene) : Type 0 where
   pub comes : ComesOf x s
   pub scope : section_scope m ≡ scope_at x.location
   pub memory : IsRoom room s
@@ -157,7 +158,8 @@ first_create bricks d n o room =
     Securing (target_of bricks d n o) None room (section_at (located bricks d n))
 
 -- the scene in which it begins
-pub record MayCreate (bricks : ℕ) (d : Gfid) (n : List ℕ) (o : Origin) (room : HealRoom) (s : Scene) : Type 0 where
+pub record MayCreate (bricks : ℕ) (d : Gfid) (n : List ℕ) (o : Origin) (room : HealRoom) (s : Scene)
+    : Type 0 where
   pub count : length s.history.weights ≡ bricks
   pub home : home d < bricks
   pub comes : ComesOf (target_of bricks d n o) s

@@ -46,10 +46,15 @@ use Rattle.dht_fileops.specs.declared.create.Target.{Target}
 -- ---- what the tree says
 
 -- a tree that has the directory, and not the name, says to make the file
-pub says_create : (t : Tree) (d : Gfid) (n : List ℕ) (g : Gfid) → t.dirs d ≡ true → t.names (d, n) ≡ None → says t (Called d n) g ≡ Do (AddFile d n g ∷ []) (Made g)
+pub says_create :
+    (t : Tree) (d : Gfid) (n : List ℕ) (g : Gfid) → t.dirs d ≡ true → t.names (d, n) ≡ None
+    → says t (Called d n) g ≡ Do (AddFile d n g ∷ []) (Made g)
 says_create t d n g e k = ap (λ b. if b then created d n g (t.names (d, n)) else Refuse Estale) e ∙ ap (λ (o : Option Node). created d n g o) k
 
-pub free_says : (x : NewFile) (l : Location) (h : Held) (s : Scene) → Sound s → IsFree x l h s → says s.history.tree s.mine.call x.file ≡ Do (AddFile l.directory l.name x.file ∷ []) (Made x.file)
+pub free_says :
+    (x : NewFile) (l : Location) (h : Held) (s : Scene) → Sound s → IsFree x l h s
+    → says s.history.tree s.mine.call x.file
+    ≡ Do (AddFile l.directory l.name x.file ∷ []) (Made x.file)
 free_says x l h s sound k =
     ap (λ (c : Call Gfid). says s.history.tree c x.file) k.may.makes.call
     ∙ says_create s.history.tree l.directory l.name x.file (kept_directory l h s sound k.may.kept) k.swept.stands.node
@@ -57,20 +62,28 @@ free_says x l h s sound k =
 -- ---- the file
 
 -- the new gfid is the call's own, and of nothing yet
-file_own : (x : NewFile) (l : Location) (h : Held) (s : Scene) → Sound s → MayMake x l h s → IsOwn s.history.run s.who s.mine.number x.file
+file_own :
+    (x : NewFile) (l : Location) (h : Held) (s : Scene) → Sound s → MayMake x l h s
+    → IsOwn s.history.run s.who s.mine.number x.file
 file_own x l h s sound k = (x.holder.0, let w = k.makes.there in let few = sound.kept.few in omega arith, k.makes.file)
 
-pub file_unused : (x : NewFile) (l : Location) (h : Held) (s : Scene) → Sound s → MayMake x l h s → Used s.disk s.history.tree x.file → ⊥
+pub file_unused :
+    (x : NewFile) (l : Location) (h : Held) (s : Scene) → Sound s → MayMake x l h s
+    → Used s.disk s.history.tree x.file → ⊥
 file_unused x l h s sound k = sound.kept.fresh s.who s.mine x.file k.makes.small sound.runs k.kept.fresh.deeds (file_own x l h s sound k)
 
-file_free : (x : NewFile) (l : Location) (h : Held) (s : Scene) → Sound s → MayMake x l h s → s.history.tree.bytes x.file ≡ None
+file_free :
+    (x : NewFile) (l : Location) (h : Held) (s : Scene) → Sound s → MayMake x l h s
+    → s.history.tree.bytes x.file ≡ None
 file_free x l h s sound k = by (s.history.tree.bytes x.file) refl
   where
     by : (o : Option (List ℕ)) → s.history.tree.bytes x.file ≡ o → o ≡ None
     by None e = refl
     by (Some bytes) e = absurd (file_unused x l h s sound k (ByBytes (λ q. let z : Some bytes ≡ None = sym e ∙ q in cc)))
 
-wants_file : (x : NewFile) (l : Location) (h : Held) (s : Scene) → Sound s → IsFree x l h s → Wants s (AddFile l.directory l.name x.file)
+wants_file :
+    (x : NewFile) (l : Location) (h : Held) (s : Scene) → Sound s → IsFree x l h s
+    → Wants s (AddFile l.directory l.name x.file)
 wants_file x l h s sound k = record {
   next = subst (λ (d : Option Deeds). IsNext s.history.tree s.mine.call d (AddFile l.directory l.name x.file)) (sym k.may.kept.fresh.deeds) ([], (Made x.file, free_says x l h s sound k));
   fits = (kept_directory l h s sound k.may.kept, k.swept.stands.node, file_free x l h s sound k.may);
@@ -80,7 +93,9 @@ wants_file x l h s sound k = record {
 -- ---- what it may ask
 
 -- it takes the name from nothing to the file at its holder
-makes_file : (x : NewFile) (l : Location) (h : Held) (s : Scene) → Sound s → IsFree x l h s → Changes s x.holder.0 (Make l.directory l.name x.file)
+makes_file :
+    (x : NewFile) (l : Location) (h : Held) (s : Scene) → Sound s → IsFree x l h s
+    → Changes s x.holder.0 (Make l.directory l.name x.file)
 makes_file x l h s sound k = record {
   holds = k.swept.holds;
   from = Bare;
@@ -103,7 +118,10 @@ create_permitted (Ending c learned) s sound h = closing_permitted c s sound h
 comes_stable : (x : Target) (s t : Scene) → ComesOf x s → Rely s t → ComesOf x t
 comes_stable x s t h o = record { call = o.mine.call ∙ h.call; origin_is = comes_from_stable x.origin s t h.origin_is o }
 
-secures_stable : (x : Target) (learned : Option (List (Option Range))) (room : HealRoom) (m : Section) (s t : Scene) → Secures x learned room m s → Rely s t → Secures x learned room m t
+secures_stable :
+    (x : Target) (learned : Option (List (Option Range))) (room : HealRoom) (m : Section)
+    (s t : Scene)
+    → Secures x learned room m s → Rely s t → Secures x learned room m t
 secures_stable x learned room m s t h o = record {
   comes = comes_stable x s t h.comes o;
   scope = h.scope;
@@ -122,10 +140,14 @@ makes_stable x l s t h o = record {
   small = subst (λ (k : CallNo). k.0 < 2 ^ 64) (sym o.mine.number) h.small;
 }
 
-may_make_stable : (x : NewFile) (l : Location) (h : Held) (s t : Scene) → MayMake x l h s → Rely s t → MayMake x l h t
+may_make_stable :
+    (x : NewFile) (l : Location) (h : Held) (s t : Scene) → MayMake x l h s → Rely s t
+    → MayMake x l h t
 may_make_stable x l h s t k o = record { makes = makes_stable x l s t k.makes o; kept = kept_stable l h s t k.kept o; holder = k.holder }
 
-clears_stable : (m : Sweep) (x : NewFile) (l : Location) (h : Held) (s t : Scene) → Clears m x l h s → Rely s t → Clears m x l h t
+clears_stable :
+    (m : Sweep) (x : NewFile) (l : Location) (h : Held) (s t : Scene) → Clears m x l h s → Rely s t
+    → Clears m x l h t
 clears_stable m x l h s t k o = record { name = k.name; may = may_make_stable x l h s t k.may o }
 
 pub create_stable : (m : Create) → IsStable (create_stage m)

@@ -56,41 +56,56 @@ file_no_dir Absent p e = tt
 file_no_dir (Directory g) p e = absurd (let z : None ≡ Some p = e in cc)
 file_no_dir (AFile f b links) p e = tt
 
-pub linked_stands : (p : Place) (l : Location) (h : Held) (s : Scene) → IsLinked p l h s → NameStands s (entry_at l) (Plain p.brick.0 p.file)
+pub linked_stands :
+    (p : Place) (l : Location) (h : Held) (s : Scene) → IsLinked p l h s
+    → NameStands s (entry_at l) (Plain p.brick.0 p.file)
 linked_stands p l h s k =
     let what = (held_looked h (entry_at l)).sight.what in
     subst (λ (o : Option Place). NameStands s (entry_at l) (found_shape o)) k.there (stands_found (entry_at l) what s (file_no_dir what p k.there) (looked_is l h s k.held).stands)
 
 -- the main part that shows it
-visible_file : (m : Option Main) (f : Gfid) → visible m ≡ Some (File f None) → m ≡ Some (File f None)
+visible_file :
+    (m : Option Main) (f : Gfid) → visible m ≡ Some (File f None) → m ≡ Some (File f None)
 visible_file None f e = e
 visible_file (Some (Dir g)) f e = e
 visible_file (Some (File g over)) f e = e
 visible_file (Some (Linkto v)) f e = absurd (let z : None ≡ Some (File f None) = e in cc)
 
-pub linked_main : (p : Place) (l : Location) (h : Held) (s : Scene) → IsLinked p l h s → (slot_at s.disk p.brick.0 (entry_at l)).main ≡ Some (File p.file None)
+pub linked_main :
+    (p : Place) (l : Location) (h : Held) (s : Scene) → IsLinked p l h s
+    → (slot_at s.disk p.brick.0 (entry_at l)).main ≡ Some (File p.file None)
 linked_main p l h s k =
     let stands = linked_stands p l h s k in
     visible_file _ p.file (ap (λ (x : Slot). x.main) (stands.has p.brick.0 stands.fits) ∙ here_at (Some (File p.file None)) p.brick.0)
 
 -- so its brick has the directory
-linked_bare : (p : Place) (l : Location) (h : Held) (s : Scene) → IsLinked p l h s → slot_at s.disk p.brick.0 (entry_at l) ≢ bare
+linked_bare :
+    (p : Place) (l : Location) (h : Held) (s : Scene) → IsLinked p l h s
+    → slot_at s.disk p.brick.0 (entry_at l) ≢ bare
 linked_bare p l h s k e = (let z : Some (File p.file None) ≡ None = sym (linked_main p l h s k) ∙ ap (λ (x : Slot). x.main) e in cc)
 
-pub linked_housed : (p : Place) (l : Location) (h : Held) (s : Scene) → Sound s → IsLinked p l h s → is_some (dir_at s.disk p.brick.0 l.directory) ≡ true
+pub linked_housed :
+    (p : Place) (l : Location) (h : Held) (s : Scene) → Sound s → IsLinked p l h s
+    → is_some (dir_at s.disk p.brick.0 l.directory) ≡ true
 linked_housed p l h s sound k = sound.kept.things.housed (entry_at l) p.brick.0 (linked_stands p l h s k).fits (linked_bare p l h s k)
 
 -- ---- what the tree says
 
-pub says_unlink : (t : Tree) (d : Gfid) (n : List ℕ) (f g : Gfid) → t.dirs d ≡ true → t.names (d, n) ≡ Some (IsFile f) → says t (Called d n) g ≡ Do (RemoveFile d n ∷ []) Done
+pub says_unlink :
+    (t : Tree) (d : Gfid) (n : List ℕ) (f g : Gfid) → t.dirs d ≡ true
+    → t.names (d, n) ≡ Some (IsFile f) → says t (Called d n) g ≡ Do (RemoveFile d n ∷ []) Done
 says_unlink t d n f g e k = ap (λ b. if b then unlinked d n (t.names (d, n)) else Refuse Estale) e ∙ ap (λ (o : Option Node). unlinked d n o) k
 
-pub linked_says : (p : Place) (l : Location) (h : Held) (s : Scene) (g : Gfid) → Sound s → IsLinked p l h s → says s.history.tree s.mine.call g ≡ Do (RemoveFile l.directory l.name ∷ []) Done
+pub linked_says :
+    (p : Place) (l : Location) (h : Held) (s : Scene) (g : Gfid) → Sound s → IsLinked p l h s
+    → says s.history.tree s.mine.call g ≡ Do (RemoveFile l.directory l.name ∷ []) Done
 linked_says p l h s g sound k =
     ap (λ (c : Call Gfid). says s.history.tree c g) k.call
     ∙ says_unlink s.history.tree l.directory l.name p.file g (in_tree l h s sound k.held) (linked_stands p l h s k).node
 
-wants_removal : (p : Place) (l : Location) (h : Held) (s : Scene) → Sound s → IsLinked p l h s → Wants s (RemoveFile l.directory l.name)
+wants_removal :
+    (p : Place) (l : Location) (h : Held) (s : Scene) → Sound s → IsLinked p l h s
+    → Wants s (RemoveFile l.directory l.name)
 wants_removal p l h s sound k = record {
   next = subst (λ (d : Option Deeds). IsNext s.history.tree s.mine.call d (RemoveFile l.directory l.name)) (sym k.held.held.fresh.deeds) ([], (Done, linked_says p l h s root sound k));
   fits = (p.file, (linked_stands p l h s k).node);
@@ -100,7 +115,9 @@ wants_removal p l h s sound k = record {
 -- ---- what it may ask
 
 -- it takes the name from the file on its brick to nothing
-removes_name : (p : Place) (l : Location) (h : Held) (s : Scene) → Sound s → IsLinked p l h s → Changes s p.brick.0 (Remove l.directory l.name p.file)
+removes_name :
+    (p : Place) (l : Location) (h : Held) (s : Scene) → Sound s → IsLinked p l h s
+    → Changes s p.brick.0 (Remove l.directory l.name p.file)
 removes_name p l h s sound k = record {
   holds = name_held l h s k.held;
   from = Plain p.brick.0 p.file;
@@ -123,10 +140,12 @@ unlink_permitted (Ending c learned) s sound h = closing_permitted c s sound h
 call_stable : (l : Location) (s t : Scene) → IsUnlink l s → Rely s t → IsUnlink l t
 call_stable l s t h o = o.mine.call ∙ h
 
-secures_stable : (l : Location) (m : Section) (s t : Scene) → Secures l m s → Rely s t → Secures l m t
+secures_stable :
+    (l : Location) (m : Section) (s t : Scene) → Secures l m s → Rely s t → Secures l m t
 secures_stable l m s t h o = record { call = call_stable l s t h.call o; scope = h.scope }
 
-last_stable : (orphan : Option Orphan) (s t : Scene) → WasLast orphan s → Rely s t → WasLast orphan t
+last_stable :
+    (orphan : Option Orphan) (s t : Scene) → WasLast orphan s → Rely s t → WasLast orphan t
 last_stable None s t h o = tt
 last_stable (Some x) s t h o = orphan_stable x s t h o
 

@@ -49,7 +49,8 @@ pub struct NewFile {
 /// A create. Each stage is one request, or those of a part that is a program of its own.
 #[derive(Drop)]
 pub enum Create {
-    /// Nothing is known of the name. This layout was read before the directory was healed, if it was.
+    /// Nothing is known of the name. This layout was read before the directory was healed, if it
+    /// was.
     Securing(Target, Option<Layout>, HealRoom, Section),
     /// No brick could hold the name by this layout: the directory is healed, and the section begins
     /// anew.

@@ -1,6 +1,6 @@
 //! Unlink: under the locks of its name, a call that takes the name of a file away, and after it the
-//! linktos of the name. Where it was the file's last name, the file goes too, unless a client has it
-//! open.
+//! linktos of the name. Where it was the file's last name, the file goes too, unless a client has
+//! it open.
 
 ghost use Rattle.std.specs.Prelude.{◌≡◌, IfOk};
 ghost use Rattle.dht_section.specs.Again.{IsUnanswered};

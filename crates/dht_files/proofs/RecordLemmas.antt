@@ -34,23 +34,33 @@ turned : (k q : Gfid) → eq_by_cmp gfid_cmp k q ≡ eq_by_cmp gfid_cmp q k
 turned k q = (eq_by_cmp_equiv gfid_total).symm k q
 
 -- entries that differ at one gfid make finite maps that differ there
-pub insert-at : (es fs : List (Gfid × Record)) (k : Gfid) (v : Record) → ((q : Gfid) → at fs q ≡ cond (is_at (gfid_cmp k) q) (Some v) (at es q)) → files_of fs ≡ insert (files_of es) k v
+pub insert-at :
+    (es fs : List (Gfid × Record)) (k : Gfid) (v : Record)
+    → ((q : Gfid) → at fs q ≡ cond (is_at (gfid_cmp k) q) (Some v) (at es q))
+    → files_of fs ≡ insert (files_of es) k v
 insert-at es fs k v h =
     same_map gfid_total gfid_exact (files_of fs) (insert (files_of es) k v) (λ q. get-at fs q ∙ h q
     ∙ ap (λ b. cond b (Some v) (at es q)) (turned k q) ∙ ap (cond (eq_by_cmp gfid_cmp q k) (Some v)) (sym (get-at es q)) ∙ sym (get-insert gfid_total (files_of es) k v q))
 
-pub remove-at : (es fs : List (Gfid × Record)) (k : Gfid) → ((q : Gfid) → at fs q ≡ cond (is_at (gfid_cmp k) q) None (at es q)) → files_of fs ≡ remove (files_of es) k
+pub remove-at :
+    (es fs : List (Gfid × Record)) (k : Gfid)
+    → ((q : Gfid) → at fs q ≡ cond (is_at (gfid_cmp k) q) None (at es q))
+    → files_of fs ≡ remove (files_of es) k
 remove-at es fs k h =
     same_map gfid_total gfid_exact (files_of fs) (remove (files_of es) k) (λ q. get-at fs q ∙ h q
     ∙ ap (λ b. cond b None (at es q)) (turned k q) ∙ ap (cond (eq_by_cmp gfid_cmp q k) None) (sym (get-at es q)) ∙ sym (get-remove gfid_total (files_of es) k q))
 
 -- ---- records that were moved on
 
-filtered_alike : (o : Option Record) → option_filter (λ x. not (is_forward (Some x))) o ≡ cond (not (is_forward o)) o None
+filtered_alike :
+    (o : Option Record)
+    → option_filter (λ x. not (is_forward (Some x))) o ≡ cond (not (is_forward o)) o None
 filtered_alike None = refl
 filtered_alike (Some x) = refl
 
-pub forgotten-at : (es : List (Gfid × Record)) → IsStrictlySortedBy gfid_cmp (keys_of es) → files_of (filter (λ e. not (is_forward (Some e.1))) es) ≡ forgotten (files_of es)
+pub forgotten-at :
+    (es : List (Gfid × Record)) → IsStrictlySortedBy gfid_cmp (keys_of es)
+    → files_of (filter (λ e. not (is_forward (Some e.1))) es) ≡ forgotten (files_of es)
 forgotten-at es sorted =
     let stays : Record → Bool = λ x. not (is_forward (Some x)) in
     let kept : Gfid → Bool = λ f. not (is_forward (get (files_of es) f)) in
@@ -82,7 +92,9 @@ insert_same m f v here =
       | false ↦ λ t. refl
     ] refl)
 
-undone_at : (m : Files) (f : Gfid) (v : Record) (before : Option Record) → get m f ≡ before → with_record (insert m f v) f before ≡ m
+undone_at :
+    (m : Files) (f : Gfid) (v : Record) (before : Option Record) → get m f ≡ before
+    → with_record (insert m f v) f before ≡ m
 undone_at m f v None e = remove-insert gfid_total gfid_exact m f v e
 undone_at m f v (Some w) e = insert_twice m f v w ∙ insert_same m f w e
 
@@ -93,5 +105,7 @@ undone m f v = undone_at m f v (get m f) refl
 pub placed : (m n : Files) (f : Gfid) (v : Record) → n ≡ insert m f v → IsSome (get n f)
 placed m n f v e = ap (λ x. is_some (get x f)) e ∙ ap is_some (get-insert_here gfid_total m f v)
 
-pub placed_again : (m n : Files) (f : Gfid) (v : Record) → n ≡ insert m f v → (r : Record) → insert n f r ≡ insert m f r
+pub placed_again :
+    (m n : Files) (f : Gfid) (v : Record) → n ≡ insert m f v → (r : Record)
+    → insert n f r ≡ insert m f r
 placed_again m n f v e r = ap (λ x. insert x f r) e ∙ insert_twice m f v r

@@ -10,7 +10,9 @@ use Rattle.dht_files.specs.Records.{with_record}
 use Rattle.dht_files.proofs.RecordLemmas.{undone}
 
 -- what was given back leaves everything as it was
-pub given_back : (m one two : Files) (f : Gfid) (v : Record) (before : Option Record) → before ≡ get m f → one ≡ insert m f v → two ≡ with_record one f before → two ≡ m
+pub given_back :
+    (m one two : Files) (f : Gfid) (v : Record) (before : Option Record) → before ≡ get m f
+    → one ≡ insert m f v → two ≡ with_record one f before → two ≡ m
 given_back m one two f v before was put back = back ∙ ap (λ x. with_record x f before) put ∙ ap (with_record (insert m f v) f) was ∙ undone m f v
 
 pub from_err : {A E P : Type 0} (r : Result A E) → is_err r ≡ true → OnErr r P → P

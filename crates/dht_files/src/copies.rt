@@ -152,7 +152,8 @@ impl Files {
         slots: &mut S,
     ) -> Reply
         ensures row { let s = store_of (S.tables slots.old) (files_in self.old) in
-            Serves (saved (with_slot s (entry_at key.now) (with_standby (slot s (entry_at key.now)) (Standby.Copy file))) file kept)
+            Serves (saved (with_slot s (entry_at key.now)
+            (with_standby (slot s (entry_at key.now)) (Standby.Copy file))) file kept)
             s result (store_of (S.tables slots.new) (files_in self.new)) }
         ensures bricks { (S.tables slots.new).bricks ≡ (S.tables slots.old).bricks }
     {

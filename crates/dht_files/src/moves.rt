@@ -52,8 +52,8 @@ impl Files {
         }
     }
 
-    /// Gives a file up to the brick to which it was copied. At its name, which has to be its own and
-    /// not marked for a rename, a linkto to that brick is left, and of its record a pointer.
+    /// Gives a file up to the brick to which it was copied. At its name, which has to be its own
+    /// and not marked for a rename, a linkto to that brick is left, and of its record a pointer.
     pub(crate) fn demote<S: Slots>(&mut self, file: Gfid, key: &EntryKey, slots: &mut S) -> Reply
         ensures row { CarriesOut (FileRequest.Demote file key.now.dir key.now.name)
             (S.tables slots.old) (files_in self.old) result (S.tables slots.new)

@@ -19,8 +19,8 @@ use dht_types::stored::Record;
 use std::alloc::{AllocError, Global};
 use std::collections::BTreeMap;
 
-/// The file records of a brick in memory. Contracts speak of `files_in`: a finite map of them by the
-/// files' gfids.
+/// The file records of a brick in memory. Contracts speak of `files_in`: a finite map of them by
+/// the files' gfids.
 #[derive(Drop)]
 pub struct Files {
     pub(crate) alloc: Global,
@@ -108,8 +108,8 @@ impl Files {
         Ok(self.records.insert(file, kept)?)
     }
 
-    /// Puts this record in place of the one that a file has, which is given back. It takes no memory,
-    /// since the map has the file already.
+    /// Puts this record in place of the one that a file has, which is given back. It takes no
+    /// memory, since the map has the file already.
     pub(crate) fn replace(&mut self, file: Gfid, kept: Record) -> Option<Record>
         requires { IsSome (get (files_in self.old) file) }
         ensures before { result ≡ get (files_in self.old) file }
@@ -121,8 +121,8 @@ impl Files {
         }
     }
 
-    /// Gives a file back the record that it had before it was given another one, or none. It takes no
-    /// memory.
+    /// Gives a file back the record that it had before it was given another one, or none. It takes
+    /// no memory.
     pub(crate) fn put_back(&mut self, file: Gfid, before: Option<Record>)
         requires { IsSome (get (files_in self.old) file) }
         ensures { files_in self.new ≡ with_record (files_in self.old) file before }

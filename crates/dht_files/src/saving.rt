@@ -34,8 +34,8 @@ fn copied(alloc: Global, kept: &Record) -> Result<Record, AllocError>
 }
 
 impl Files {
-    /// The least file with a record above this one, or the first of all; none exactly where there is
-    /// none.
+    /// The least file with a record above this one, or the first of all; none exactly where there
+    /// is none.
     pub fn next_key(&self, after: Option<Gfid>) -> Option<Gfid>
         ensures { result ≡ key_above (files_in self.now) after }
     {

@@ -40,14 +40,15 @@ fn key(dir: Gfid, name: &Name) -> EntryKey
 
 impl Files {
     /// Serves a request about a file's record, on a brick with these slots, by the request's row.
-    /// Where the table's cell refuses, the refusal names the record's state; where a further condition
-    /// fails, it has that condition's word, or else names the state. Where there is no memory, nothing
-    /// is done; but to unmark, demote, promote or drop a file, and to say that a copy is clean, takes
-    /// none.
+    /// Where the table's cell refuses, the refusal names the record's state; where a further
+    /// condition fails, it has that condition's word, or else names the state. Where there is no
+    /// memory, nothing is done; but to unmark, demote, promote or drop a file, and to say that a
+    /// copy is clean, takes none.
     pub fn serve<S: Slots>(&mut self, request: &FileRequest, slots: &mut S) -> Reply
         ensures row { Serves (file_row (S.tables slots.old).bricks request.now (store_of
             (S.tables slots.old) (files_in self.old)))
-            (store_of (S.tables slots.old) (files_in self.old)) result (store_of (S.tables slots.new) (files_in self.new)) }
+            (store_of (S.tables slots.old) (files_in self.old)) result
+            (store_of (S.tables slots.new) (files_in self.new)) }
         ensures bricks { (S.tables slots.new).bricks ≡ (S.tables slots.old).bricks }
         ensures memory { FileTakesNoMemory request.now → result ≢ Reply.NoMemory }
     {

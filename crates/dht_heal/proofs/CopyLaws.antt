@@ -16,11 +16,16 @@ use Rattle.dht_section.specs.Views.{dir_view}
 
 -- ---- a copy stands at a name
 
-pub copy_stands : (s : Scene) (g : Gfid) (b : ℕ) (y : DirRecord) (k : EntryKey) → Sound s → b < s.disk.count → dir_at s.disk b g ≡ Some y → y.place ≡ Some k → StandsIn (dir_view s.disk g) b y k
+pub copy_stands :
+    (s : Scene) (g : Gfid) (b : ℕ) (y : DirRecord) (k : EntryKey) → Sound s → b < s.disk.count
+    → dir_at s.disk b g ≡ Some y → y.place ≡ Some k → StandsIn (dir_view s.disk g) b y k
 copy_stands s g b y k sound l there e = subst (PlacedAt (dir_view s.disk g) b y) e ((sound.kept.things.dirs g).placed b y l there)
 
 -- its parent is a directory of the tree
-pub parent_there : (s : Scene) (g : Gfid) (b : ℕ) (y : DirRecord) (k : EntryKey) → Sound s → b < s.disk.count → dir_at s.disk b g ≡ Some y → y.place ≡ Some k → (home k.dir < s.disk.count) × (s.history.tree.dirs k.dir ≡ true)
+pub parent_there :
+    (s : Scene) (g : Gfid) (b : ℕ) (y : DirRecord) (k : EntryKey) → Sound s → b < s.disk.count
+    → dir_at s.disk b g ≡ Some y → y.place ≡ Some k
+    → (home k.dir < s.disk.count) × (s.history.tree.dirs k.dir ≡ true)
 parent_there s g b y k sound l there e =
     let stands = copy_stands s g b y k sound l there e in
     (sound.kept.things.dirs k.dir).led b l (by (dir_at s.disk b k.dir) stands.above stands.parent)
@@ -30,7 +35,11 @@ parent_there s g b y k sound l there e =
     by (Some x) above q = refl
 
 -- the directory was made at that name, one deeper than the one that it stands in
-pub copy_made_at : (s : Scene) (g : Gfid) (b : ℕ) (y : DirRecord) (k : EntryKey) → Sound s → b < s.disk.count → dir_at s.disk b g ≡ Some y → y.place ≡ Some k → s.history.tree.descents g ≡ Some (record { depth = depth_of s.history.tree k.dir + 1; place = Some (entry_at k) })
+pub copy_made_at :
+    (s : Scene) (g : Gfid) (b : ℕ) (y : DirRecord) (k : EntryKey) → Sound s → b < s.disk.count
+    → dir_at s.disk b g ≡ Some y → y.place ≡ Some k
+    → s.history.tree.descents g
+    ≡ Some (record { depth = depth_of s.history.tree k.dir + 1; place = Some (entry_at k) })
 copy_made_at s g b y k sound l there e =
     let stands = copy_stands s g b y k sound l there e in
     (sound.kept.tree.child (entry_at k) g (main_named s (entry_at k) g b sound l stands.main)).descent

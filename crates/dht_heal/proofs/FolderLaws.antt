@@ -23,11 +23,15 @@ seen_dir g (Some (File f over)) e = absurd (let z : false ≡ true = e in cc)
 seen_dir g (Some (Linkto value)) e = absurd (let z : false ≡ true = e in cc)
 
 -- only a directory's name has such a part
-no_file : (f : Gfid) (over : Option BrickNo) (c : Bool) (g : Gfid) → (if c then Some (File f over) else None) ≡ Some (Dir g) → ⊥
+no_file :
+    (f : Gfid) (over : Option BrickNo) (c : Bool) (g : Gfid)
+    → (if c then Some (File f over) else None) ≡ Some (Dir g) → ⊥
 no_file f over true g e = (let z : Some (File f over) ≡ Some (Dir g) = e in cc)
 no_file f over false g e = (let z : None ≡ Some (Dir g) = e in cc)
 
-folder_main : (s : Scene) (e : Entry) (g : Gfid) (b : ℕ) (h : NameShape) → NameStands s e h → main_at h b ≡ Some (Dir g) → s.history.tree.names e ≡ Some (IsDir g)
+folder_main :
+    (s : Scene) (e : Entry) (g : Gfid) (b : ℕ) (h : NameShape) → NameStands s e h
+    → main_at h b ≡ Some (Dir g) → s.history.tree.names e ≡ Some (IsDir g)
 folder_main s e g b Bare k q = absurd (let z : None ≡ Some (Dir g) = q in cc)
 folder_main s e g b (Folder f on) k q = by (on b) q
   where
@@ -44,7 +48,9 @@ folder_main s e g b (Standing i f) k q = absurd (let z : None ≡ Some (Dir g) =
 folder_main s e g b (Copied i f t) k q = absurd (no_file f None (nat_eq b i) g q)
 folder_main s e g b (Committed t f) k q = absurd (let z : None ≡ Some (Dir g) = q in cc)
 
-pub main_named : (s : Scene) (e : Entry) (g : Gfid) (b : ℕ) → Sound s → b < s.disk.count → is_dir g (slot_at s.disk b e).main ≡ true → s.history.tree.names e ≡ Some (IsDir g)
+pub main_named :
+    (s : Scene) (e : Entry) (g : Gfid) (b : ℕ) → Sound s → b < s.disk.count
+    → is_dir g (slot_at s.disk b e).main ≡ true → s.history.tree.names e ≡ Some (IsDir g)
 main_named s e g b sound l h =
     let stands = sound.kept.things.names e in
     folder_main s e g b stands.0 stands.1 (sym (ap (λ (p : Slot). p.main) (stands.1.has b l)) ∙ seen_dir g (slot_at s.disk b e).main h)

@@ -54,15 +54,21 @@ told_dir : (c : Climb) (v : Bool) (r : Reply) (at : ℕ) → KeepsDir (Climbing 
 told_dir c true r at = refl
 told_dir c false r at = by_dir c (parent_shown r)
 
-unless_dir : (c : Climb) (o : Option Errno) (r : Reply) (at : ℕ) → KeepsDir (Climbing c) (climb_unless o c r at)
+unless_dir :
+    (c : Climb) (o : Option Errno) (r : Reply) (at : ℕ)
+    → KeepsDir (Climbing c) (climb_unless o c r at)
 unless_dir c None r at = told_dir c (is_nodir r) r at
 unless_dir c (Some e) r at = refl
 
-below_dir : (m : HealOne) (place : ℕ) (c : Climb) (at : ℕ) → KeepsDir (Healing m c) (healed_below place c at)
+below_dir :
+    (m : HealOne) (place : ℕ) (c : Climb) (at : ℕ)
+    → KeepsDir (Healing m c) (healed_below place c at)
 below_dir m zero c at = refl
 below_dir m (suc place) c at = refl
 
-went_dir : (m : HealOne) (c : Climb) (turn : Turn HealOne HealedOne) → KeepsDir (Healing m c) (heal_went c turn)
+went_dir :
+    (m : HealOne) (c : Climb) (turn : Turn HealOne HealedOne)
+    → KeepsDir (Healing m c) (heal_went c turn)
 went_dir m c (Go n) = refl
 went_dir m c (Done (Healed at)) = below_dir m c.place c at
 went_dir m c (Done (Gone at)) = refl
@@ -89,11 +95,15 @@ by_fault : (c : Climb) (o : Option Gfid) → heal_fault (climb_by o c) ≡ None
 by_fault c None = refl
 by_fault c (Some p) = climbed_fault c p
 
-told_notes : (c : Climb) (v : Bool) (r : Reply) (at : ℕ) → fault_of r ≡ None → Notes (Climbing c) r (climb_told v c r at)
+told_notes :
+    (c : Climb) (v : Bool) (r : Reply) (at : ℕ) → fault_of r ≡ None
+    → Notes (Climbing c) r (climb_told v c r at)
 told_notes c true r at z = sym z
 told_notes c false r at z = by_fault c (parent_shown r) ∙ sym z
 
-unless_notes : (c : Climb) (o : Option Errno) (r : Reply) (at : ℕ) → fault_of r ≡ o → Notes (Climbing c) r (climb_unless o c r at)
+unless_notes :
+    (c : Climb) (o : Option Errno) (r : Reply) (at : ℕ) → fault_of r ≡ o
+    → Notes (Climbing c) r (climb_unless o c r at)
 unless_notes c None r at z = told_notes c (is_nodir r) r at z
 unless_notes c (Some e) r at z = ap part_fault (sym z) ∙ fault_errors r
 
@@ -101,7 +111,11 @@ either_fault : (a : Option Errno) → part_fault (either a None) ≡ either (par
 either_fault None = refl
 either_fault (Some e) = either_none (brick_error e)
 
-one_fault : (m : HealOne) (r : Reply) (o : Option Errno) → o ≡ either (heal_one_fault m) (fault_for (heal_one_stage m).asks.request r) → part_fault o ≡ either (part_fault (heal_one_fault m)) (fault_for (heal_one_stage m).asks.request r)
+one_fault :
+    (m : HealOne) (r : Reply) (o : Option Errno)
+    → o ≡ either (heal_one_fault m) (fault_for (heal_one_stage m).asks.request r)
+    → part_fault o
+    ≡ either (part_fault (heal_one_fault m)) (fault_for (heal_one_stage m).asks.request r)
 one_fault (Locking x) r o e = ap part_fault e ∙ fault_errors r
 one_fault (Surveying x b v) r o e = ap part_fault e ∙ fault_errors r
 one_fault (Copying x b v k) r o e = ap part_fault e ∙ fault_errors r
@@ -126,7 +140,10 @@ noted_as : (turn : Turn Heal HealEnd) (o p : Option Errno) → o ≡ p → Noted
 noted_as (Go n) o p e h = h ∙ e
 noted_as (Done d) o p e h = h ∙ e
 
-went_notes : (m : HealOne) (c : Climb) (turn : Turn HealOne HealedOne) (r : Reply) → NotesStop m r turn → Noted (either (part_fault (heal_one_fault m)) (fault_for (heal_one_stage m).asks.request r)) (heal_went c turn)
+went_notes :
+    (m : HealOne) (c : Climb) (turn : Turn HealOne HealedOne) (r : Reply) → NotesStop m r turn
+    → Noted (either (part_fault (heal_one_fault m)) (fault_for (heal_one_stage m).asks.request r))
+    (heal_went c turn)
 went_notes m c (Go n) r h = one_fault m r (heal_one_fault n) h
 went_notes m c (Done d) r h = noted_as (heal_from c d) (part_fault (told_fault d)) _ (one_fault m r (told_fault d) h) (from_fault c d)
 
@@ -136,7 +153,9 @@ heal_notes (Healing m c) r at = went_notes m c (heal_one_after m r at) r (heal_o
 
 -- ---- what it sends again
 
-climb_again : (c : Climb) (r : Reply) (at : ℕ) → fault_of r ≡ None → is_shown r ≡ false → climb_answered c r at ≡ Go (Climbing c)
+climb_again :
+    (c : Climb) (r : Reply) (at : ℕ) → fault_of r ≡ None → is_shown r ≡ false
+    → climb_answered c r at ≡ Go (Climbing c)
 climb_again c (reply.Ok given) at z e = absurd (let k : true ≡ false = e in cc)
 climb_again c (reply.Refused Nodir) at z e = absurd (let k : true ≡ false = e in cc)
 climb_again c (reply.Refused why) at z e = refl
@@ -145,6 +164,7 @@ climb_again c reply.Down at z e = absurd (let k = z in cc)
 climb_again c reply.Failed at z e = absurd (let k = z in cc)
 climb_again c reply.NoMemory at z e = absurd (let k = z in cc)
 
-pub heal_again : (m : Heal) (r : Reply) (at : ℕ) → IsUnanswered (heal_stage m) r → heal_after m r at ≡ Go m
+pub heal_again :
+    (m : Heal) (r : Reply) (at : ℕ) → IsUnanswered (heal_stage m) r → heal_after m r at ≡ Go m
 heal_again (Climbing c) r at h = climb_again c r at h.0 h.1
 heal_again (Healing m c) r at h = ap (heal_went c) (heal_one_again m r at h)

@@ -1,5 +1,5 @@
--- What the healing of one directory still knows after its own requests, and what it knows where it goes
--- on.
+-- What the healing of one directory still knows after
+-- its own requests, and what it knows where it goes on.
 use Rattle.std.proofs.Common.{◌≡◌, ◌≢◌, ◌<◌, ◌≤◌, ◌+◌, ◌-◌, ◌||◌, ℕ, Bool, true, false, List, [], ◌∷◌, refl, sym, ◌∙◌, ap, subst, arith, cond}
 use Rattle.std.specs.Prelude.{suc, is_some, length, nat_le, if◌then◌else◌, slice_index_or, Option, Some, None}
 use Rattle.std.specs.Option.{option_map}
@@ -50,7 +50,9 @@ use Rattle.dht_heal.specs.declared.heal_one.Target.{Target}
 abbrev pub IsStepless : Ask → Type 0
 IsStepless a = request_step a.brick.0 a.request ≡ None
 
-pub target_moved : (x : Target) (s t : Scene) (a : Ask) (r : Reply) → IsStepless a → IsTarget x s → Guarantee s a r t → IsTarget x t
+pub target_moved :
+    (x : Target) (s t : Scene) (a : Ask) (r : Reply) → IsStepless a → IsTarget x s
+    → Guarantee s a r t → IsTarget x t
 target_moved x s t a r e h m = record {
   count = ap length m.weights ∙ h.count;
   home = h.home;
@@ -58,10 +60,14 @@ target_moved x s t a r e h m = record {
   deeds = stepless_deeds s t a r e m ∙ h.deeds;
 }
 
-pub holds_moved : (g : Gfid) (s t : Scene) (a : Ask) (r : Reply) → Leaves a.request (DirKey g) → HoldsAlone s g → Guarantee s a r t → HoldsAlone t g
+pub holds_moved :
+    (g : Gfid) (s t : Scene) (a : Ask) (r : Reply) → Leaves a.request (DirKey g) → HoldsAlone s g
+    → Guarantee s a r t → HoldsAlone t g
 holds_moved g s t a r l h m = lock_moved s t a r m g (DirKey g) l ∙ h
 
-pub saw_moved : (g : Gfid) (h : HomeCopy) (s t : Scene) (a : Ask) (r : Reply) → IsStepless a → SawHome g h s → Guarantee s a r t → SawHome g h t
+pub saw_moved :
+    (g : Gfid) (h : HomeCopy) (s t : Scene) (a : Ask) (r : Reply) → IsStepless a → SawHome g h s
+    → Guarantee s a r t → SawHome g h t
 saw_moved g h s t a r e k m = record {
   after = let since = m.mine.since in let after = k.after in omega arith;
   before = let later = m.later in let before = k.before in omega arith;
@@ -69,7 +75,9 @@ saw_moved g h s t a r e k m = record {
   descent = ap (λ (p : Tree). p.descents g) (stepless_tree s t a r e m) ∙ k.descent;
 }
 
-pub was_moved : (g : Gfid) (at : ℕ) (s t : Scene) (a : Ask) (r : Reply) → WasThere g at s → Guarantee s a r t → WasThere g at t
+pub was_moved :
+    (g : Gfid) (at : ℕ) (s t : Scene) (a : Ask) (r : Reply) → WasThere g at s → Guarantee s a r t
+    → WasThere g at t
 was_moved g at s t a r k m = record {
   after = let since = m.mine.since in let after = k.after in omega arith;
   before = let later = m.later in let before = k.before in omega arith;
@@ -77,16 +85,23 @@ was_moved g at s t a r k m = record {
 }
 
 -- on a brick whose copy did not change
-pub copied_at_brick : (g : Gfid) (b : ℕ) (s t : Scene) → dir_at t.disk b g ≡ dir_at s.disk b g → IsCopied g b s → IsCopied g b t
+pub copied_at_brick :
+    (g : Gfid) (b : ℕ) (s t : Scene) → dir_at t.disk b g ≡ dir_at s.disk b g → IsCopied g b s
+    → IsCopied g b t
 copied_at_brick g b s t same h = ap is_some same ∙ h
 
-pub copy_at_brick : (g : Gfid) (read : Option Range) (b : ℕ) (s t : Scene) → dir_at t.disk b g ≡ dir_at s.disk b g → HasCopy g read b s → HasCopy g read b t
+pub copy_at_brick :
+    (g : Gfid) (read : Option Range) (b : ℕ) (s t : Scene) → dir_at t.disk b g ≡ dir_at s.disk b g
+    → HasCopy g read b s → HasCopy g read b t
 copy_at_brick g read b s t same h = record {
   there = ap is_some same ∙ h.there;
   same = h.same ∙ ap (λ (o : Option DirRecord). bounds (range_of o)) (sym same);
 }
 
-pub shown_at_brick : (g : Gfid) (mark : Bool) (read : Option Range) (b : ℕ) (s t : Scene) (a : Ask) (r : Reply) → dir_at t.disk b g ≡ dir_at s.disk b g → WasShown g mark read b s → Guarantee s a r t → WasShown g mark read b t
+pub shown_at_brick :
+    (g : Gfid) (mark : Bool) (read : Option Range) (b : ℕ) (s t : Scene) (a : Ask) (r : Reply)
+    → dir_at t.disk b g ≡ dir_at s.disk b g → WasShown g mark read b s → Guarantee s a r t
+    → WasShown g mark read b t
 shown_at_brick g true read b s t a r same h m = copy_at_brick g read b s t same h
 shown_at_brick g false read b s t a r same h m = record {
   below = h.below;
@@ -95,7 +110,9 @@ shown_at_brick g false read b s t a r same h m = record {
   still = λ now. ap range_of same ∙ h.still (alone_before s t a r m now);
 }
 
-pub shown_quiet : (g : Gfid) (v : Survey) (limit : ℕ) (s t : Scene) (a : Ask) (r : Reply) → IsQuiet a.request → IsStepless a → Shown g v limit s → Guarantee s a r t → Shown g v limit t
+pub shown_quiet :
+    (g : Gfid) (v : Survey) (limit : ℕ) (s t : Scene) (a : Ask) (r : Reply) → IsQuiet a.request
+    → IsStepless a → Shown g v limit s → Guarantee s a r t → Shown g v limit t
 shown_quiet g v limit s t a r q e h m = record {
   room = h.room;
   whole = h.whole;
@@ -104,7 +121,9 @@ shown_quiet g v limit s t a r q e h m = record {
 }
 
 -- what is told stays so after the lock was given back
-pub told_quiet : (g : Gfid) (d : HealedOne) (s t : Scene) (a : Ask) (r : Reply) → IsQuiet a.request → IsStepless a → Told g d s → Guarantee s a r t → Told g d t
+pub told_quiet :
+    (g : Gfid) (d : HealedOne) (s t : Scene) (a : Ask) (r : Reply) → IsQuiet a.request
+    → IsStepless a → Told g d s → Guarantee s a r t → Told g d t
 told_quiet g (Healed at) s t a r q e h m = record {
   was = was_moved g at s t a r h.was m;
   whole = if_alone_moved (λ u. IsWhole u.disk g) (λ u w. whole_stays u w g) s t a r q h.whole m;
@@ -125,7 +144,11 @@ told_quiet g (Stopped x) s t a r q e h m = (h.0, may_answer_moved (fault_finish 
 -- ---- a directory that is whole
 
 -- two layouts with the same bounds have the same hashes
-covers_same : (hash : ℕ) (xs ys : List (Option Range)) → length xs ≡ length ys → ((i : ℕ) → i < length xs → bounds (slice_index_or xs i None) ≡ bounds (slice_index_or ys i None)) → covers xs hash ≡ covers ys hash
+covers_same :
+    (hash : ℕ) (xs ys : List (Option Range)) → length xs ≡ length ys
+    → ((i : ℕ) → i < length xs
+    → bounds (slice_index_or xs i None) ≡ bounds (slice_index_or ys i None))
+    → covers xs hash ≡ covers ys hash
 covers_same hash [] [] l h = refl
 covers_same hash [] (y ∷ ys) l h = absurd (omega arith)
 covers_same hash (x ∷ xs) [] l h = absurd (omega arith)
@@ -136,7 +159,11 @@ covers_same hash (x ∷ xs) (y ∷ ys) l h =
     ∙ (ap (λ (n : ℕ). count y + n) (covers_same hash xs ys (omega arith) (λ i k. h (suc i) (omega arith)))
     ∙ sym (sum_by-cons count y ys)))
 
-pub whole_by : (d : Disk) (g : Gfid) (ranges : List (Option Range)) → length ranges ≡ d.count → ((i : ℕ) → i < d.count → is_some (dir_at d i g) ≡ true) → ((i : ℕ) → i < d.count → bounds (slice_index_or ranges i None) ≡ bounds (range_at d g i)) → (HasHole ranges → ⊥) → (HasOverlap ranges → ⊥) → IsWhole d g
+pub whole_by :
+    (d : Disk) (g : Gfid) (ranges : List (Option Range)) → length ranges ≡ d.count
+    → ((i : ℕ) → i < d.count → is_some (dir_at d i g) ≡ true)
+    → ((i : ℕ) → i < d.count → bounds (slice_index_or ranges i None) ≡ bounds (range_at d g i))
+    → (HasHole ranges → ⊥) → (HasOverlap ranges → ⊥) → IsWhole d g
 whole_by d g ranges size copies same no_hole no_overlap = record {
   copies = copies;
   no_hole = λ q. no_hole (q.0, q.1, all q.0 ∙ q.2);
@@ -154,7 +181,9 @@ neither true b e = absurd (let z : true ≡ false = e in cc)
 neither false b e = (refl, e)
 
 -- what a brick showed are its bounds, if the call is alone
-pub same_bounds : (g : Gfid) (mark : Bool) (read : Option Range) (b : ℕ) (s : Scene) → WasShown g mark read b s → IsAlone s.history s.mine → bounds read ≡ bounds (range_at s.disk g b)
+pub same_bounds :
+    (g : Gfid) (mark : Bool) (read : Option Range) (b : ℕ) (s : Scene) → WasShown g mark read b s
+    → IsAlone s.history s.mine → bounds read ≡ bounds (range_at s.disk g b)
 same_bounds g true read b s h now = h.same
 same_bounds g false read b s h now = ap bounds (h.nothing ∙ sym (h.still now))
 
@@ -166,11 +195,14 @@ pub record IsReady (x : Target) (bound : ℕ) (n : HealOne) (t : Scene) : Type 0
   pub knows : (heal_one_stage n).knows t
   pub left : (heal_one_stage n).variant ≤ bound
 
-pub by_test : (P : HealOne → Type 0) (c : Bool) (a b : HealOne) → (c ≡ true → P a) → (c ≡ false → P b) → P (if c then a else b)
+pub by_test :
+    (P : HealOne → Type 0) (c : Bool) (a b : HealOne) → (c ≡ true → P a) → (c ≡ false → P b)
+    → P (if c then a else b)
 by_test P true a b h k = h refl
 by_test P false a b h k = k refl
 
-pub looser : (x : Target) (a b : ℕ) (n : HealOne) (t : Scene) → a ≤ b → IsReady x a n t → IsReady x b n t
+pub looser :
+    (x : Target) (a b : ℕ) (n : HealOne) (t : Scene) → a ≤ b → IsReady x a n t → IsReady x b n t
 looser x a b n t l h = record { target = h.target; knows = h.knows; left = let left = h.left in omega arith }
 
 saw_was : (g : Gfid) (h : HomeCopy) (t : Scene) → SawHome g h t → WasThere g h.at t
@@ -183,7 +215,9 @@ pub record AllCopied (x : Target) (v : Survey) (t : Scene) : Type 0 where
   pub holds : HoldsAlone t x.directory
   pub shown : Shown x.directory v x.bricks t
 
-pub settled_ready : (x : Target) (v : Survey) (t : Scene) → AllCopied x v t → ((i : ℕ) → i < x.bricks → IsCopied x.directory i t) → IsReady x (x.bricks + 1) (settled x v) t
+pub settled_ready :
+    (x : Target) (v : Survey) (t : Scene) → AllCopied x v t
+    → ((i : ℕ) → i < x.bricks → IsCopied x.directory i t) → IsReady x (x.bricks + 1) (settled x v) t
 settled_ready x v t h copied = by_test (λ n. IsReady x (x.bricks + 1) n t) (is_faulty v.layout) _ _
     (λ e. record {
       target = refl;
@@ -232,16 +266,22 @@ settled_ready x v t h copied = by_test (λ n. IsReady x (x.bricks + 1) n t) (is_
 -- ---- the copies
 
 -- a brick that had a copy has it
-marked_copied : (g : Gfid) (mark : Bool) (read : Option Range) (b : ℕ) (t : Scene) → mark ≡ true → WasShown g mark read b t → IsCopied g b t
+marked_copied :
+    (g : Gfid) (mark : Bool) (read : Option Range) (b : ℕ) (t : Scene) → mark ≡ true
+    → WasShown g mark read b t → IsCopied g b t
 marked_copied g true read b t e h = h.there
 marked_copied g false read b t e h = absurd (let z : false ≡ true = e in cc)
 
-root_copied : (g : Gfid) (mark : Bool) (read : Option Range) (b : ℕ) (t : Scene) → g ≡ root → WasShown g mark read b t → IsCopied g b t
+root_copied :
+    (g : Gfid) (mark : Bool) (read : Option Range) (b : ℕ) (t : Scene) → g ≡ root
+    → WasShown g mark read b t → IsCopied g b t
 root_copied g true read b t e h = h.there
 root_copied g false read b t e h = absurd (h.below e)
 
 -- a directory that stands at no name is the root
-pub placeless_root : (x : Target) (v : Survey) (t : Scene) → AllCopied x v t → v.home.place ≡ None → x.directory ≡ root
+pub placeless_root :
+    (x : Target) (v : Survey) (t : Scene) → AllCopied x v t → v.home.place ≡ None
+    → x.directory ≡ root
 placeless_root x v t h e =
     let there : home x.directory < x.bricks = h.target.home in
     let copied = home_copied x.directory _ _ t (h.shown.bricks (home x.directory) there) in
@@ -252,7 +292,11 @@ placeless_root x v t h e =
     p.rooted (ap (λ (d : Descent). d.place) one ∙ ap (option_map entry_at) e)
 
 -- the bricks below one have a copy
-copying_ready : (x : Target) (v : Survey) (k : EntryKey) (from : ℕ) (t : Scene) (o : Option BrickNo) → from ≤ x.bricks → AllCopied x v t → v.home.place ≡ Some k → ((i : ℕ) → i < from → IsCopied x.directory i t) → Finds v.copies from x.bricks o → IsReady x (x.bricks - from + x.bricks + 1) (copying o x v k) t
+copying_ready :
+    (x : Target) (v : Survey) (k : EntryKey) (from : ℕ) (t : Scene) (o : Option BrickNo)
+    → from ≤ x.bricks → AllCopied x v t → v.home.place ≡ Some k
+    → ((i : ℕ) → i < from → IsCopied x.directory i t) → Finds v.copies from x.bricks o
+    → IsReady x (x.bricks - from + x.bricks + 1) (copying o x v k) t
 copying_ready x v k from t None l h e copied f = looser x (x.bricks + 1) _ (settled x v) t (omega arith) (settled_ready x v t h (λ i w. below_all i w))
   where
     below_all : (i : ℕ) → i < x.bricks → IsCopied x.directory i t
@@ -285,7 +329,10 @@ copying_ready x v k from t (Some b) l h e copied f =
         by i w true q = marked_copied x.directory _ _ i t (f.before i (grind (arith, nat_tests, q)) w) (h.shown.bricks i (let below = f.below in omega arith))
         by i w false q = copied i (grind (arith, nat_tests, q))
 
-pub copied_ready : (x : Target) (v : Survey) (from : ℕ) (t : Scene) → from ≤ x.bricks → AllCopied x v t → ((i : ℕ) → i < from → IsCopied x.directory i t) → IsReady x (x.bricks - from + x.bricks + 1) (copied_from x v from) t
+pub copied_ready :
+    (x : Target) (v : Survey) (from : ℕ) (t : Scene) → from ≤ x.bricks → AllCopied x v t
+    → ((i : ℕ) → i < from → IsCopied x.directory i t)
+    → IsReady x (x.bricks - from + x.bricks + 1) (copied_from x v from) t
 copied_ready x v from t l h copied = by v.home.place refl
   where
     by : (o : Option EntryKey) → v.home.place ≡ o → IsReady x (x.bricks - from + x.bricks + 1) (copied_at o x v from) t
@@ -293,7 +340,10 @@ copied_ready x v from t l h copied = by v.home.place refl
     by (Some k) e = copying_ready x v k from t (next_missing x.bricks v.copies from) l h e copied (finds_missing x.bricks v.copies from l)
 
 -- one brick more has shown the directory
-pub surveyed_ready : (x : Target) (b : BrickNo) (v : Survey) (t : Scene) → Sound t → IsTarget x t → HoldsAlone t x.directory → b.0 < x.bricks → Shown x.directory v (b.0 + 1) t → IsReady x (x.bricks - (b.0 + 1) + x.bricks + x.bricks + 1) (surveyed x b v) t
+pub surveyed_ready :
+    (x : Target) (b : BrickNo) (v : Survey) (t : Scene) → Sound t → IsTarget x t
+    → HoldsAlone t x.directory → b.0 < x.bricks → Shown x.directory v (b.0 + 1) t
+    → IsReady x (x.bricks - (b.0 + 1) + x.bricks + x.bricks + 1) (surveyed x b v) t
 surveyed_ready x b v t sound target holds within shown = by_test (λ n. IsReady x (x.bricks - (b.0 + 1) + x.bricks + x.bricks + 1) n t) (nat_le (x.bricks - b.0) 1) _ _
     (λ e. (let all : b.0 + 1 ≡ x.bricks = grind (arith, nat_tests, e, within) in
     looser x (x.bricks - 0 + x.bricks + 1) _ (copied_from x v 0) t (omega arith)
@@ -305,7 +355,11 @@ surveyed_ready x b v t sound target holds within shown = by_test (λ n. IsReady 
     })
 
 -- one brick more has its planned range
-pub laid_ready : (x : Target) (b : BrickNo) (at : ℕ) (t : Scene) → Sound t → IsTarget x t → HoldsAlone t x.directory → b.0 < x.bricks → ((i : ℕ) → i < x.bricks → IsCopied x.directory i t) → ((i : ℕ) → i < b.0 + 1 → IsLaid x i t) → WasThere x.directory at t → IsReady x (x.bricks - (b.0 + 1) + 1) (laid x b at) t
+pub laid_ready :
+    (x : Target) (b : BrickNo) (at : ℕ) (t : Scene) → Sound t → IsTarget x t
+    → HoldsAlone t x.directory → b.0 < x.bricks
+    → ((i : ℕ) → i < x.bricks → IsCopied x.directory i t) → ((i : ℕ) → i < b.0 + 1 → IsLaid x i t)
+    → WasThere x.directory at t → IsReady x (x.bricks - (b.0 + 1) + 1) (laid x b at) t
 laid_ready x b at t sound target holds within copied is_laid was = by_test (λ n. IsReady x (x.bricks - (b.0 + 1) + 1) n t) (nat_le (x.bricks - b.0) 1) _ _
     (λ e. (let all : b.0 + 1 ≡ x.bricks = grind (arith, nat_tests, e, within) in
     record {

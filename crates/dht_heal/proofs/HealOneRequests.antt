@@ -51,23 +51,33 @@ no_step_by b q Failed e = refl
 no_step_by b q NoMemory e = refl
 
 -- a request that stands for no step leaves the tree, and what the call has done
-pub stepless_tree : (s t : Scene) (a : Ask) (r : Reply) → request_step a.brick.0 a.request ≡ None → Guarantee s a r t → t.history.tree ≡ s.history.tree
+pub stepless_tree :
+    (s t : Scene) (a : Ask) (r : Reply) → request_step a.brick.0 a.request ≡ None
+    → Guarantee s a r t → t.history.tree ≡ s.history.tree
 stepless_tree s t a r e m = m.tree ∙ ap (λ (o : Option TreeStep). tree_by o s.history.tree) (no_step_by a.brick.0 a.request m.real e)
 
-pub stepless_deeds : (s t : Scene) (a : Ask) (r : Reply) → request_step a.brick.0 a.request ≡ None → Guarantee s a r t → t.mine.deeds ≡ s.mine.deeds
+pub stepless_deeds :
+    (s t : Scene) (a : Ask) (r : Reply) → request_step a.brick.0 a.request ≡ None
+    → Guarantee s a r t → t.mine.deeds ≡ s.mine.deeds
 stepless_deeds s t a r e m = m.mine.deeds_are ∙ ap (λ (o : Option TreeStep). deeds_by s t.history.size o) (no_step_by a.brick.0 a.request m.real e)
 
 -- ---- what a brick says of a directory
 
-pub info_none : (x : Target) (b : BrickNo) (s t : Scene) (r : Reply) → dir_at s.disk b.0 x.directory ≡ None → fault_of r ≡ None → Guarantee s (info_ask x b) r t → r ≡ Declined why.Nodir
+pub info_none :
+    (x : Target) (b : BrickNo) (s t : Scene) (r : Reply) → dir_at s.disk b.0 x.directory ≡ None
+    → fault_of r ≡ None → Guarantee s (info_ask x b) r t → r ≡ Declined why.Nodir
 info_none x b s t r e z m = row_reply s t (info_ask x b) r m z ∙ ap (λ (o : Option DirRecord). reply_in (within (with_store (s.disk.brick b.0)) (in_dir o (λ y. Do (given.Dirinfo (info_of (s.disk.brick b.0).store x.directory y)) (s.disk.brick b.0).store)))) e
 
-pub info_some : (x : Target) (b : BrickNo) (y : DirRecord) (s t : Scene) (r : Reply) → dir_at s.disk b.0 x.directory ≡ Some y → fault_of r ≡ None → Guarantee s (info_ask x b) r t → r ≡ Carried (given.Dirinfo (info_of (s.disk.brick b.0).store x.directory y))
+pub info_some :
+    (x : Target) (b : BrickNo) (y : DirRecord) (s t : Scene) (r : Reply)
+    → dir_at s.disk b.0 x.directory ≡ Some y → fault_of r ≡ None → Guarantee s (info_ask x b) r t
+    → r ≡ Carried (given.Dirinfo (info_of (s.disk.brick b.0).store x.directory y))
 info_some x b y s t r e z m = row_reply s t (info_ask x b) r m z ∙ ap (λ (o : Option DirRecord). reply_in (within (with_store (s.disk.brick b.0)) (in_dir o (λ y. Do (given.Dirinfo (info_of (s.disk.brick b.0).store x.directory y)) (s.disk.brick b.0).store)))) e
 
 -- ---- a directory's record is set on one brick
 
--- a brick has this record of the directory, and nothing else of what bricks have of directories changed
+-- a brick has this record of the directory, and nothing
+-- else of what bricks have of directories changed
 pub record SetsDir (s t : Scene) (b : ℕ) (g : Gfid) (y : DirRecord) : Type 0 where
   pub here : dir_at t.disk b g ≡ Some y
   pub off : (i : ℕ) (h : Gfid) → i ≢ b → dir_at t.disk i h ≡ dir_at s.disk i h
@@ -76,7 +86,11 @@ pub record SetsDir (s t : Scene) (b : ℕ) (g : Gfid) (y : DirRecord) : Type 0 w
 apart_some : (g h : Gfid) → h ≢ g → Some g ≢ Some h
 apart_some g h ne e = ne (let z : Some g ≡ Some h = e in let q : g ≡ h = cc in sym q)
 
-pub sets_dir : (s t : Scene) (a : Ask) (r : Reply) (g : Gfid) (y : DirRecord) (new : Contents) (m : Guarantee s a r t) → m.new ≡ new → new.store.dirs ≡ insert (s.disk.brick a.brick.0).store.dirs g y → SetsDir s t a.brick.0 g y
+pub sets_dir :
+    (s t : Scene) (a : Ask) (r : Reply) (g : Gfid) (y : DirRecord) (new : Contents)
+    (m : Guarantee s a r t)
+    → m.new ≡ new → new.store.dirs ≡ insert (s.disk.brick a.brick.0).store.dirs g y
+    → SetsDir s t a.brick.0 g y
 sets_dir s t a r g y new m is dirs = record {
   here = ap (λ (c : Contents). dir c.store g) (new_is s t a r m ∙ is)
       ∙ (ap (λ (d : Dirs). get d g) dirs ∙ get-insert_here gfid_total (s.disk.brick a.brick.0).store.dirs g y);
@@ -96,7 +110,9 @@ abbrev pub make_ask : BrickNo → Gfid → List ℕ → Gfid → ℕ → Option 
 make_ask b d n g depth value = record { brick = b; request = OnNames (MakeDir d n g depth value) }
 
 -- what comes of it, by what the brick has of the parent, and by whether the name is free
-abbrev make_outcome : Option DirRecord → Bool → Gfid → List ℕ → Gfid → ℕ → Option (List ℕ) → Contents → Outcome Contents
+abbrev make_outcome :
+    Option DirRecord → Bool → Gfid → List ℕ → Gfid → ℕ → Option (List ℕ) → Contents
+    → Outcome Contents
 make_outcome o v d n g depth value c =
     within (with_store c) (in_dir o (λ y. on_slot (MakeDir d n g depth value) c.store (d, n)
     (when v (with_main (slot c.store (d, n)) (main.Dir g)))))
@@ -107,12 +123,23 @@ pub data CopyMade (b : BrickNo) (d : Gfid) (n : List ℕ) (g : Gfid) (depth : �
   Occupied : r ≡ Declined (why.Slot (slot_shown (slot_at s.disk b.0 (d, n)))) → is_free (slot_at s.disk b.0 (d, n)) ≡ false → CopyMade b d n g depth value s t r
   Made : r ≡ Carried given.Nothing → SetsDir s t b.0 g (new_copy d n depth value) → CopyMade b d n g depth value s t r
 
-make_by : (b : BrickNo) (d : Gfid) (n : List ℕ) (g : Gfid) (depth : ℕ) (value : Option (List ℕ)) (s t : Scene) (r : Reply) (o : Option DirRecord) (v : Bool) → dir_at s.disk b.0 d ≡ o → is_free (slot_at s.disk b.0 (d, n)) ≡ v → (m : Guarantee s (make_ask b d n g depth value) r t) → r ≡ reply_in (make_outcome o v d n g depth value (s.disk.brick b.0)) → m.new ≡ left_by (make_outcome o v d n g depth value (s.disk.brick b.0)) (s.disk.brick b.0) → CopyMade b d n g depth value s t r
+make_by :
+    (b : BrickNo) (d : Gfid) (n : List ℕ) (g : Gfid) (depth : ℕ) (value : Option (List ℕ))
+    (s t : Scene) (r : Reply) (o : Option DirRecord) (v : Bool)
+    → dir_at s.disk b.0 d ≡ o → is_free (slot_at s.disk b.0 (d, n)) ≡ v
+    → (m : Guarantee s (make_ask b d n g depth value) r t)
+    → r ≡ reply_in (make_outcome o v d n g depth value (s.disk.brick b.0))
+    → m.new ≡ left_by (make_outcome o v d n g depth value (s.disk.brick b.0)) (s.disk.brick b.0)
+    → CopyMade b d n g depth value s t r
 make_by b d n g depth value s t r None v e f m reply new = NoParent reply e
 make_by b d n g depth value s t r (Some y) false e f m reply new = Occupied reply f
 make_by b d n g depth value s t r (Some y) true e f m reply new = Made reply (sets_dir s t (make_ask b d n g depth value) r g (new_copy d n depth value) _ m new refl)
 
-pub copy_made : (b : BrickNo) (d : Gfid) (n : List ℕ) (g : Gfid) (depth : ℕ) (value : Option (List ℕ)) (s t : Scene) (r : Reply) → fault_of r ≡ None → Guarantee s (make_ask b d n g depth value) r t → CopyMade b d n g depth value s t r
+pub copy_made :
+    (b : BrickNo) (d : Gfid) (n : List ℕ) (g : Gfid) (depth : ℕ) (value : Option (List ℕ))
+    (s t : Scene) (r : Reply)
+    → fault_of r ≡ None → Guarantee s (make_ask b d n g depth value) r t
+    → CopyMade b d n g depth value s t r
 copy_made b d n g depth value s t r z m =
     let row = row_moved s t (make_ask b d n g depth value) r m z in
     make_by b d n g depth value s t r (dir_at s.disk b.0 d) (is_free (slot_at s.disk b.0 (d, n))) refl refl m row.0 row.1
@@ -133,7 +160,19 @@ pub record RangeSet (x : Target) (b : BrickNo) (s t : Scene) (r : Reply) : Type 
   pub value : copy.value ≡ value_of (slice_index_or x.plan b.0 None)
   pub sets : SetsDir s t b.0 x.directory copy
 
-range_by : (x : Target) (b : BrickNo) (s t : Scene) (r : Reply) (o : Option DirRecord) → is_some o ≡ true → (m : Guarantee s (layout_ask x b) r t) → r ≡ reply_in (layout_outcome o x.directory (value_of (slice_index_or x.plan b.0 None)) (s.disk.brick b.0)) → m.new ≡ left_by (layout_outcome o x.directory (value_of (slice_index_or x.plan b.0 None)) (s.disk.brick b.0)) (s.disk.brick b.0) → RangeSet x b s t r
+range_by :
+    (x : Target) (b : BrickNo) (s t : Scene) (r : Reply) (o : Option DirRecord) → is_some o ≡ true
+    → (m : Guarantee s (layout_ask x b) r t)
+    → r
+    ≡ reply_in
+    (layout_outcome o x.directory (value_of (slice_index_or x.plan b.0 None))
+    (s.disk.brick b.0))
+    → m.new
+    ≡ left_by
+    (layout_outcome o x.directory (value_of (slice_index_or x.plan b.0 None))
+    (s.disk.brick b.0))
+    (s.disk.brick b.0)
+    → RangeSet x b s t r
 range_by x b s t r None there m reply new = absurd (let z : false ≡ true = there in cc)
 range_by x b s t r (Some y) there m reply new = record {
   reply = reply;
@@ -142,14 +181,18 @@ range_by x b s t r (Some y) there m reply new = record {
   sets = sets_dir s t (layout_ask x b) r x.directory (laid_copy y (value_of (slice_index_or x.plan b.0 None))) _ m new refl;
 }
 
-pub range_set : (x : Target) (b : BrickNo) (s t : Scene) (r : Reply) → IsCopied x.directory b.0 s → fault_of r ≡ None → Guarantee s (layout_ask x b) r t → RangeSet x b s t r
+pub range_set :
+    (x : Target) (b : BrickNo) (s t : Scene) (r : Reply) → IsCopied x.directory b.0 s
+    → fault_of r ≡ None → Guarantee s (layout_ask x b) r t → RangeSet x b s t r
 range_set x b s t r there z m =
     let row = row_moved s t (layout_ask x b) r m z in
     range_by x b s t r (dir_at s.disk b.0 x.directory) there m row.0 row.1
 
 -- ---- what stands at a directory's name is its copy
 
-shown_dir : (g : Gfid) (v : Bool) (m : Option Main) → visible m ≡ when_on v (main.Dir g) → is_vacant m ≡ false → is_dir g m ≡ true
+shown_dir :
+    (g : Gfid) (v : Bool) (m : Option Main) → visible m ≡ when_on v (main.Dir g)
+    → is_vacant m ≡ false → is_dir g m ≡ true
 shown_dir g v None e k = absurd (let z : true ≡ false = k in cc)
 shown_dir g v (Some (main.Linkto value)) e k = absurd (let z : true ≡ false = k in cc)
 shown_dir g false (Some (main.Dir h)) e k = absurd (let z : Some (main.Dir h) ≡ None = e in cc)
@@ -168,7 +211,9 @@ not_vacant p e k = by (is_vacant p.main) refl
     by true q = absurd (let z : true ≡ false = sym (ap (λ (o : Option Standby). is_none o) e) ∙ (ap (λ (w : Bool). w && is_none p.standby) (sym q) ∙ k) in cc)
 
 -- so a brick where the name is not free has a copy
-pub occupied_copied : (s : Scene) (g : Gfid) (e : Entry) (on : ℕ → Bool) (b : ℕ) → Sound s → b < s.disk.count → NameStands s e (Folder g on) → is_free (slot_at s.disk b e) ≡ false → IsCopied g b s
+pub occupied_copied :
+    (s : Scene) (g : Gfid) (e : Entry) (on : ℕ → Bool) (b : ℕ) → Sound s → b < s.disk.count
+    → NameStands s e (Folder g on) → is_free (slot_at s.disk b e) ≡ false → IsCopied g b s
 occupied_copied s g e on b sound l stands taken =
     let has = stands.has b l in
     let p : Slot = slot_at s.disk b e in

@@ -69,7 +69,10 @@ claims_is (Copying x b v k) = refl
 claims_is (Laying x b at) = refl
 claims_is (Unlocking x d) = refl
 
-goes : (m n : HealOne) (bound : ℕ) (r : Reply) (at : ℕ) (s t : Scene) → IsReady (target_of m) bound n t → bound < (heal_one_stage m).variant → Served (heal_one_stage m) r at s t → GoesOn (heal_one_stage m) (heal_one_stage n) r t
+goes :
+    (m n : HealOne) (bound : ℕ) (r : Reply) (at : ℕ) (s t : Scene) → IsReady (target_of m) bound n t
+    → bound < (heal_one_stage m).variant → Served (heal_one_stage m) r at s t
+    → GoesOn (heal_one_stage m) (heal_one_stage n) r t
 goes m n bound r at s t h l v =
     let left = h.left in
     let same : claims_locks (heal_one_stage m).claims.locks ≡ (heal_one_stage n).claims =
@@ -90,14 +93,18 @@ target_in (Laying x b at) s h = h.target
 target_in (Unlocking x d) s h = h.target
 
 -- none of its requests is a step of the tree
-pub stepless : (m : HealOne) (s : Scene) → (heal_one_stage m).knows s → IsStepless (heal_one_stage m).asks
+pub stepless :
+    (m : HealOne) (s : Scene) → (heal_one_stage m).knows s → IsStepless (heal_one_stage m).asks
 stepless (Locking x) s h = refl
 stepless (Surveying x b v) s h = refl
 stepless (Copying x b v k) s h = no_home_step b.0 x.directory (AddDir k.dir k.name x.directory) (copying_missing x b v k s h).away
 stepless (Laying x b at) s h = refl
 stepless (Unlocking x d) s h = refl
 
-stops : (m : HealOne) (e : Errno) (r : Reply) (at : ℕ) (s t : Scene) → fault_of r ≡ Some e → 1 < (heal_one_stage m).variant → Served (heal_one_stage m) r at s t → GoesOn (heal_one_stage m) (heal_one_stage (Unlocking (target_of m) (Stopped e))) r t
+stops :
+    (m : HealOne) (e : Errno) (r : Reply) (at : ℕ) (s t : Scene) → fault_of r ≡ Some e
+    → 1 < (heal_one_stage m).variant → Served (heal_one_stage m) r at s t
+    → GoesOn (heal_one_stage m) (heal_one_stage (Unlocking (target_of m) (Stopped e))) r t
 stops m e r at s t z l v = goes m (Unlocking (target_of m) (Stopped e)) 1 r at s t (record {
   target = refl;
   knows = record {
@@ -107,13 +114,20 @@ stops m e r at s t z l v = goes m (Unlocking (target_of m) (Stopped e)) 1 r at s
   left = omega arith;
 }) l v
 
-unless : (m n : HealOne) (o : Option Errno) (r : Reply) (at : ℕ) (s t : Scene) → fault_of r ≡ o → 1 < (heal_one_stage m).variant → Served (heal_one_stage m) r at s t → (fault_of r ≡ None → GoesOn (heal_one_stage m) (heal_one_stage n) r t) → GoesOn (heal_one_stage m) (heal_one_stage (unless_fault o (target_of m) n)) r t
+unless :
+    (m n : HealOne) (o : Option Errno) (r : Reply) (at : ℕ) (s t : Scene) → fault_of r ≡ o
+    → 1 < (heal_one_stage m).variant → Served (heal_one_stage m) r at s t
+    → (fault_of r ≡ None → GoesOn (heal_one_stage m) (heal_one_stage n) r t)
+    → GoesOn (heal_one_stage m) (heal_one_stage (unless_fault o (target_of m) n)) r t
 unless m n None r at s t z l v go = go z
 unless m n (Some e) r at s t z l v go = stops m e r at s t z l v
 
 -- ---- the lock
 
-lock_step : (x : Target) (r : Reply) (at : ℕ) (s t : Scene) → Served (heal_one_stage (Locking x)) r at s t → fault_of r ≡ None → GoesOn (heal_one_stage (Locking x)) (heal_one_stage (lock_answered x r)) r t
+lock_step :
+    (x : Target) (r : Reply) (at : ℕ) (s t : Scene) → Served (heal_one_stage (Locking x)) r at s t
+    → fault_of r ≡ None
+    → GoesOn (heal_one_stage (Locking x)) (heal_one_stage (lock_answered x r)) r t
 lock_step x r at s t v z = by_test (λ n. GoesOn (heal_one_stage (Locking x)) (heal_one_stage n) r t) (is_carried (reply_kind r)) _ _
     (λ e. goes (Locking x) (Surveying x (record { 0 = 0 }) no_survey) (x.bricks - 0 + x.bricks + x.bricks + 1) r at s t (record {
       target = refl;
@@ -135,7 +149,10 @@ lock_step x r at s t v z = by_test (λ n. GoesOn (heal_one_stage (Locking x)) (h
 -- ---- the survey
 
 -- the home has none
-gone_ready : (x : Target) (b : BrickNo) (v : Survey) (r : Reply) (at : ℕ) (s t : Scene) → Served (heal_one_stage (Surveying x b v)) r at s t → b.0 ≡ home x.directory → dir_at s.disk b.0 x.directory ≡ None → IsReady x 1 (Unlocking x (Gone at)) t
+gone_ready :
+    (x : Target) (b : BrickNo) (v : Survey) (r : Reply) (at : ℕ) (s t : Scene)
+    → Served (heal_one_stage (Surveying x b v)) r at s t → b.0 ≡ home x.directory
+    → dir_at s.disk b.0 x.directory ≡ None → IsReady x 1 (Unlocking x (Gone at)) t
 gone_ready x b v r at s t w q e =
     let begun = w.after.begun in
     let line = w.line in
@@ -158,17 +175,25 @@ gone_ready x b v r at s t w q e =
     }
 
 -- one brick more
-shown_as : (g : Gfid) (a b : Bool) (x y : Option Range) (i : ℕ) (t : Scene) → a ≡ b → x ≡ y → WasShown g a x i t → WasShown g b y i t
+shown_as :
+    (g : Gfid) (a b : Bool) (x y : Option Range) (i : ℕ) (t : Scene) → a ≡ b → x ≡ y
+    → WasShown g a x i t → WasShown g b y i t
 shown_as g a b x y i t e k h = subst (λ (mark : Bool). WasShown g mark y i t) e (subst (λ (o : Option Range). WasShown g a o i t) k h)
 
-home_as : (g : Gfid) (v : Survey) (b : BrickNo) (r : Reply) (at : ℕ) (t : Scene) → (b.0 ≡ home g → SawHome g (home_shown r at) t) → (b.0 ≢ home g → SawHome g v.home t) → SawHome g (survey_with g v b r at).home t
+home_as :
+    (g : Gfid) (v : Survey) (b : BrickNo) (r : Reply) (at : ℕ) (t : Scene)
+    → (b.0 ≡ home g → SawHome g (home_shown r at) t) → (b.0 ≢ home g → SawHome g v.home t)
+    → SawHome g (survey_with g v b r at).home t
 home_as g v b r at t h k = by (nat_eq b.0 (home g)) refl
   where
     by : (c : Bool) → nat_eq b.0 (home g) ≡ c → SawHome g (if c then home_shown r at else v.home) t
     by true e = h ((exact_nat b.0 (home g)).0 e)
     by false e = k (λ q. let z : true ≡ false = sym ((exact_nat b.0 (home g)).1 q) ∙ e in cc)
 
-shown_more : (g : Gfid) (v : Survey) (b : BrickNo) (r : Reply) (at : ℕ) (t : Scene) → b.0 < 32 → Shown g v b.0 t → WasShown g (is_carried (reply_kind r)) (range_shown r) b.0 t → (b.0 ≡ home g → SawHome g (home_shown r at) t) → Shown g (survey_with g v b r at) (b.0 + 1) t
+shown_more :
+    (g : Gfid) (v : Survey) (b : BrickNo) (r : Reply) (at : ℕ) (t : Scene) → b.0 < 32
+    → Shown g v b.0 t → WasShown g (is_carried (reply_kind r)) (range_shown r) b.0 t
+    → (b.0 ≡ home g → SawHome g (home_shown r at) t) → Shown g (survey_with g v b r at) (b.0 + 1) t
 shown_more g v b r at t few h new saw =
     let room = h.room in
     let whole = h.whole in
@@ -204,7 +229,10 @@ shown_more g v b r at t few h new saw =
     ]
 
 -- the home's copy is at the name at which the directory was made
-key_at : (g : Gfid) (b : ℕ) (y : DirRecord) (p : Descent) (s : Scene) (o : Option EntryKey) → Sound s → b < s.disk.count → dir_at s.disk b g ≡ Some y → s.history.tree.descents g ≡ Some p → y.place ≡ o → option_map entry_at o ≡ p.place
+key_at :
+    (g : Gfid) (b : ℕ) (y : DirRecord) (p : Descent) (s : Scene) (o : Option EntryKey) → Sound s
+    → b < s.disk.count → dir_at s.disk b g ≡ Some y → s.history.tree.descents g ≡ Some p
+    → y.place ≡ o → option_map entry_at o ≡ p.place
 key_at g b y p s None sound l e is q =
     let rooted : g ≡ root = (sound.kept.things.dirs g).rooted b y l e q in
     let same : Some p ≡ Some of_root = sym is ∙ (ap s.history.tree.descents rooted ∙ sound.kept.tree.rooted.1) in
@@ -218,7 +246,11 @@ key_at g b y p s (Some k) sound l e is q =
     let one : p ≡ record { depth = depth_of s.history.tree k.dir + 1; place = Some (entry_at k) } = cc in
     ap (λ (d : Descent). d.place) (sym one)
 
-descent_at : (g : Gfid) (y : DirRecord) (b : ℕ) (s : Scene) → Sound s → b < s.disk.count → b ≡ home g → dir_at s.disk b g ≡ Some y → s.history.tree.descents g ≡ Some (record { depth = y.depth; place = option_map entry_at y.place })
+descent_at :
+    (g : Gfid) (y : DirRecord) (b : ℕ) (s : Scene) → Sound s → b < s.disk.count → b ≡ home g
+    → dir_at s.disk b g ≡ Some y
+    → s.history.tree.descents g
+    ≡ Some (record { depth = y.depth; place = option_map entry_at y.place })
 descent_at g y b s sound l q e =
     let there : IsCopied g (home g) s = ap (λ (i : ℕ). is_some (dir_at s.disk i g)) (sym q) ∙ ap is_some e in
     let p = sound.kept.tree.placed g (in_tree g s sound there) in
@@ -226,7 +258,11 @@ descent_at g y b s sound l q e =
     let place : option_map entry_at y.place ≡ p.descent.place = key_at g b y p.descent s y.place sound l e p.is refl in
     p.is ∙ (λ i. Some (record { depth = sym deep i; place = sym place i }))
 
-saw_home : (x : Target) (b : BrickNo) (v : Survey) (y : DirRecord) (r : Reply) (at : ℕ) (s t : Scene) → Served (heal_one_stage (Surveying x b v)) r at s t → b.0 < s.disk.count → dir_at s.disk b.0 x.directory ≡ Some y → b.0 ≡ home x.directory → SawHome x.directory (record { place = y.place; depth = y.depth; at = at }) t
+saw_home :
+    (x : Target) (b : BrickNo) (v : Survey) (y : DirRecord) (r : Reply) (at : ℕ) (s t : Scene)
+    → Served (heal_one_stage (Surveying x b v)) r at s t → b.0 < s.disk.count
+    → dir_at s.disk b.0 x.directory ≡ Some y → b.0 ≡ home x.directory
+    → SawHome x.directory (record { place = y.place; depth = y.depth; at = at }) t
 saw_home x b v y r at s t w l e q =
     let begun = w.after.begun in
     let line = w.line in
@@ -241,7 +277,13 @@ saw_home x b v y r at s t w l e q =
     }
 
 -- it is surveyed further
-more_ready : (x : Target) (b : BrickNo) (v : Survey) (r : Reply) (at : ℕ) (s t : Scene) → Served (heal_one_stage (Surveying x b v)) r at s t → WasShown x.directory (is_carried (reply_kind r)) (range_shown r) b.0 t → (b.0 ≡ home x.directory → SawHome x.directory (home_shown r at) t) → GoesOn (heal_one_stage (Surveying x b v)) (heal_one_stage (surveyed x b (survey_with x.directory v b r at))) r t
+more_ready :
+    (x : Target) (b : BrickNo) (v : Survey) (r : Reply) (at : ℕ) (s t : Scene)
+    → Served (heal_one_stage (Surveying x b v)) r at s t
+    → WasShown x.directory (is_carried (reply_kind r)) (range_shown r) b.0 t
+    → (b.0 ≡ home x.directory → SawHome x.directory (home_shown r at) t)
+    → GoesOn (heal_one_stage (Surveying x b v))
+    (heal_one_stage (surveyed x b (survey_with x.directory v b r at))) r t
 more_ready x b v r at s t w new saw =
     let h = w.is_at.knows in
     let within = h.within in
@@ -256,7 +298,12 @@ more_ready x b v r at s t w new saw =
     (omega arith) w
 
 -- the brick had no copy
-none_step : (x : Target) (b : BrickNo) (v : Survey) (r : Reply) (at : ℕ) (s t : Scene) → Served (heal_one_stage (Surveying x b v)) r at s t → dir_at s.disk b.0 x.directory ≡ None → r ≡ reply.Refused why.Nodir → GoesOn (heal_one_stage (Surveying x b v)) (heal_one_stage (survey_answered x b v (reply.Refused why.Nodir) at)) r t
+none_step :
+    (x : Target) (b : BrickNo) (v : Survey) (r : Reply) (at : ℕ) (s t : Scene)
+    → Served (heal_one_stage (Surveying x b v)) r at s t → dir_at s.disk b.0 x.directory ≡ None
+    → r ≡ reply.Refused why.Nodir
+    → GoesOn (heal_one_stage (Surveying x b v))
+    (heal_one_stage (survey_answered x b v (reply.Refused why.Nodir) at)) r t
 none_step x b v r at s t w e q = by_test (λ n. GoesOn (heal_one_stage (Surveying x b v)) (heal_one_stage n) r t) (nat_eq b.0 (home x.directory)) _ _
     (λ k. goes (Surveying x b v) (Unlocking x (Gone at)) 1 r at s t (gone_ready x b v r at s t w ((exact_nat b.0 (home x.directory)).0 k) e) (let within = w.is_at.knows.within in omega arith) w)
     (λ k. by_test (λ n. GoesOn (heal_one_stage (Surveying x b v)) (heal_one_stage n) r t) (not (same_gfid x.directory root)) _ _
@@ -283,7 +330,15 @@ none_step x b v r at s t w e q = by_test (λ n. GoesOn (heal_one_stage (Surveyin
     is_so false k = absurd (let z : true ≡ false = k in cc)
 
 -- the brick had one
-some_step : (x : Target) (b : BrickNo) (v : Survey) (y : DirRecord) (r : Reply) (at : ℕ) (s t : Scene) → Served (heal_one_stage (Surveying x b v)) r at s t → dir_at s.disk b.0 x.directory ≡ Some y → r ≡ reply.Ok (given.Dirinfo (info_of (s.disk.brick b.0).store x.directory y)) → GoesOn (heal_one_stage (Surveying x b v)) (heal_one_stage (survey_answered x b v (reply.Ok (given.Dirinfo (info_of (s.disk.brick b.0).store x.directory y))) at)) r t
+some_step :
+    (x : Target) (b : BrickNo) (v : Survey) (y : DirRecord) (r : Reply) (at : ℕ) (s t : Scene)
+    → Served (heal_one_stage (Surveying x b v)) r at s t → dir_at s.disk b.0 x.directory ≡ Some y
+    → r ≡ reply.Ok (given.Dirinfo (info_of (s.disk.brick b.0).store x.directory y))
+    → GoesOn (heal_one_stage (Surveying x b v))
+    (heal_one_stage
+    (survey_answered x b v
+    (reply.Ok (given.Dirinfo (info_of (s.disk.brick b.0).store x.directory y))) at))
+    r t
 some_step x b v y r at s t w e q =
     let same = dir_moved s t (info_ask x b) r w.moved tt x.directory b.0 ∙ e in
     let l : b.0 < s.disk.count = (let within = w.is_at.knows.within in let bricks = target_bricks x s w.before w.is_at.knows.target in omega arith) in
@@ -295,7 +350,10 @@ some_step x b v y r at s t w e q =
     }))
     (λ c. subst (λ (z : Reply). SawHome x.directory (home_shown z at) t) (sym q) (saw_home x b v y r at s t w l e c)))
 
-survey_step : (x : Target) (b : BrickNo) (v : Survey) (r : Reply) (at : ℕ) (s t : Scene) → Served (heal_one_stage (Surveying x b v)) r at s t → fault_of r ≡ None → GoesOn (heal_one_stage (Surveying x b v)) (heal_one_stage (survey_answered x b v r at)) r t
+survey_step :
+    (x : Target) (b : BrickNo) (v : Survey) (r : Reply) (at : ℕ) (s t : Scene)
+    → Served (heal_one_stage (Surveying x b v)) r at s t → fault_of r ≡ None
+    → GoesOn (heal_one_stage (Surveying x b v)) (heal_one_stage (survey_answered x b v r at)) r t
 survey_step x b v r at s t w z = by (dir_at s.disk b.0 x.directory) refl
   where
     by : (o : Option DirRecord) → dir_at s.disk b.0 x.directory ≡ o → GoesOn (heal_one_stage (Surveying x b v)) (heal_one_stage (survey_answered x b v r at)) r t
@@ -309,7 +367,11 @@ survey_step x b v r at s t w z = by (dir_at s.disk b.0 x.directory) refl
 -- ---- the copies
 
 -- what is known goes over where nothing of the directory changed but on this brick
-shown_beside : (x : Target) (b : BrickNo) (v : Survey) (k : EntryKey) (r : Reply) (at : ℕ) (s t : Scene) → Served (heal_one_stage (Copying x b v k)) r at s t → ((i : ℕ) → i ≢ b.0 → dir_at t.disk i x.directory ≡ dir_at s.disk i x.directory) → range_at t.disk x.directory b.0 ≡ None → Shown x.directory v x.bricks t
+shown_beside :
+    (x : Target) (b : BrickNo) (v : Survey) (k : EntryKey) (r : Reply) (at : ℕ) (s t : Scene)
+    → Served (heal_one_stage (Copying x b v k)) r at s t
+    → ((i : ℕ) → i ≢ b.0 → dir_at t.disk i x.directory ≡ dir_at s.disk i x.directory)
+    → range_at t.disk x.directory b.0 ≡ None → Shown x.directory v x.bricks t
 shown_beside x b v k r at s t w others none = record {
   room = h.shown.room;
   whole = h.shown.whole;
@@ -330,7 +392,12 @@ shown_beside x b v k r at s t w others none = record {
     here = subst (λ (m : Bool). WasShown x.directory m (slice_index_or v.layout b.0 None) b.0 t) (sym h.missing) (record { below = had.below; away = had.away; nothing = had.nothing; still = λ alone. none })
 
 -- the bricks up to this one have a copy
-next_copy : (x : Target) (b : BrickNo) (v : Survey) (k : EntryKey) (r : Reply) (at : ℕ) (s t : Scene) → Served (heal_one_stage (Copying x b v k)) r at s t → IsTarget x t → HoldsAlone t x.directory → Shown x.directory v x.bricks t → ((i : ℕ) → i < b.0 → IsCopied x.directory i t) → IsCopied x.directory b.0 t → GoesOn (heal_one_stage (Copying x b v k)) (heal_one_stage (copied_from x v (b.0 + 1))) r t
+next_copy :
+    (x : Target) (b : BrickNo) (v : Survey) (k : EntryKey) (r : Reply) (at : ℕ) (s t : Scene)
+    → Served (heal_one_stage (Copying x b v k)) r at s t → IsTarget x t → HoldsAlone t x.directory
+    → Shown x.directory v x.bricks t → ((i : ℕ) → i < b.0 → IsCopied x.directory i t)
+    → IsCopied x.directory b.0 t
+    → GoesOn (heal_one_stage (Copying x b v k)) (heal_one_stage (copied_from x v (b.0 + 1))) r t
 next_copy x b v k r at s t w target holds shown copied here =
     let within = w.is_at.knows.within in
     goes (Copying x b v k) (copied_from x v (b.0 + 1)) (x.bricks - (b.0 + 1) + x.bricks + 1) r at s t
@@ -343,7 +410,12 @@ next_copy x b v k r at s t w target holds shown copied here =
     up_to i l false e = copied i (below_or i b.0 (omega arith) (λ q. let z : true ≡ false = sym ((exact_nat i b.0).1 q) ∙ e in cc))
 
 -- a copy was made
-made_step : (x : Target) (b : BrickNo) (v : Survey) (k : EntryKey) (y : DirRecord) (r : Reply) (at : ℕ) (s t : Scene) → Served (heal_one_stage (Copying x b v k)) r at s t → y.value ≡ None → SetsDir s t b.0 x.directory y → GoesOn (heal_one_stage (Copying x b v k)) (heal_one_stage (copied_from x v (b.0 + 1))) r t
+made_step :
+    (x : Target) (b : BrickNo) (v : Survey) (k : EntryKey) (y : DirRecord) (r : Reply) (at : ℕ)
+    (s t : Scene)
+    → Served (heal_one_stage (Copying x b v k)) r at s t → y.value ≡ None
+    → SetsDir s t b.0 x.directory y
+    → GoesOn (heal_one_stage (Copying x b v k)) (heal_one_stage (copied_from x v (b.0 + 1))) r t
 made_step x b v k y r at s t w none sets =
     let h = w.is_at.knows in
     next_copy x b v k r at s t w
@@ -354,7 +426,11 @@ made_step x b v k y r at s t w none sets =
     (ap is_some sets.here)
 
 -- something stands at the name: another call has made the copy
-occupied_step : (x : Target) (b : BrickNo) (v : Survey) (k : EntryKey) (r : Reply) (at : ℕ) (s t : Scene) → Served (heal_one_stage (Copying x b v k)) r at s t → fault_of r ≡ None → is_carried (reply_kind r) ≡ false → is_free (slot_at s.disk b.0 (entry_at k)) ≡ false → GoesOn (heal_one_stage (Copying x b v k)) (heal_one_stage (copied_from x v (b.0 + 1))) r t
+occupied_step :
+    (x : Target) (b : BrickNo) (v : Survey) (k : EntryKey) (r : Reply) (at : ℕ) (s t : Scene)
+    → Served (heal_one_stage (Copying x b v k)) r at s t → fault_of r ≡ None
+    → is_carried (reply_kind r) ≡ false → is_free (slot_at s.disk b.0 (entry_at k)) ≡ false
+    → GoesOn (heal_one_stage (Copying x b v k)) (heal_one_stage (copied_from x v (b.0 + 1))) r t
 occupied_step x b v k r at s t w z c taken =
     let h = heal_one_stable (Copying x b v k) s t w.is_at.knows (unserved_is_rely s t _ r z c w.moved) in
     let same = unserved s t _ r z c w.moved in
@@ -365,7 +441,11 @@ occupied_step x b v k r at s t w z c taken =
     (occupied_copied s x.directory (entry_at k) folder.0 b.0 w.before there folder.1 taken))
 
 -- the directory above is not there
-parent_step : (x : Target) (b : BrickNo) (v : Survey) (k : EntryKey) (r : Reply) (at : ℕ) (s t : Scene) → Served (heal_one_stage (Copying x b v k)) r at s t → fault_of r ≡ None → is_carried (reply_kind r) ≡ false → dir_at s.disk b.0 k.dir ≡ None → GoesOn (heal_one_stage (Copying x b v k)) (heal_one_stage (Unlocking x (Parent b))) r t
+parent_step :
+    (x : Target) (b : BrickNo) (v : Survey) (k : EntryKey) (r : Reply) (at : ℕ) (s t : Scene)
+    → Served (heal_one_stage (Copying x b v k)) r at s t → fault_of r ≡ None
+    → is_carried (reply_kind r) ≡ false → dir_at s.disk b.0 k.dir ≡ None
+    → GoesOn (heal_one_stage (Copying x b v k)) (heal_one_stage (Unlocking x (Parent b))) r t
 parent_step x b v k r at s t w z c none =
     let h = heal_one_stable (Copying x b v k) s t w.is_at.knows (unserved_is_rely s t _ r z c w.moved) in
     let same = unserved s t _ r z c w.moved in
@@ -388,14 +468,22 @@ within_true b n true l e = grind (arith, nat_tests, l)
 within_true b n false l e = absurd (let z : false ≡ true = e in cc)
 
 -- by what the brick said
-copy_to : (x : Target) (b : BrickNo) (v : Survey) (k : EntryKey) (r : Reply) (at : ℕ) (s t : Scene) → Served (heal_one_stage (Copying x b v k)) r at s t → is_nodir r ≡ false → has_copy r ≡ true → GoesOn (heal_one_stage (Copying x b v k)) (heal_one_stage (copied_from x v (b.0 + 1))) r t → GoesOn (heal_one_stage (Copying x b v k)) (heal_one_stage (copy_answered x b v k r)) r t
+copy_to :
+    (x : Target) (b : BrickNo) (v : Survey) (k : EntryKey) (r : Reply) (at : ℕ) (s t : Scene)
+    → Served (heal_one_stage (Copying x b v k)) r at s t → is_nodir r ≡ false → has_copy r ≡ true
+    → GoesOn (heal_one_stage (Copying x b v k)) (heal_one_stage (copied_from x v (b.0 + 1))) r t
+    → GoesOn (heal_one_stage (Copying x b v k)) (heal_one_stage (copy_answered x b v k r)) r t
 copy_to x b v k r at s t w e f go = by_test (λ n. GoesOn (heal_one_stage (Copying x b v k)) (heal_one_stage n) r t) (is_nodir r) _ _
     (λ q. absurd (let z : true ≡ false = sym q ∙ e in cc))
     (λ q. by_test (λ n. GoesOn (heal_one_stage (Copying x b v k)) (heal_one_stage n) r t) (has_copy r && nat_lt b.0 x.bricks) (copied_from x v (b.0 + 1)) _
     (λ y. go)
     (λ y. absurd (let z : true ≡ false = sym (within_true b.0 x.bricks (has_copy r) w.is_at.knows.within f) ∙ y in cc)))
 
-copy_step : (x : Target) (b : BrickNo) (v : Survey) (k : EntryKey) (r : Reply) (at : ℕ) (s t : Scene) → Served (heal_one_stage (Copying x b v k)) r at s t → fault_of r ≡ None → CopyMade b k.dir k.name x.directory v.home.depth None s t r → GoesOn (heal_one_stage (Copying x b v k)) (heal_one_stage (copy_answered x b v k r)) r t
+copy_step :
+    (x : Target) (b : BrickNo) (v : Survey) (k : EntryKey) (r : Reply) (at : ℕ) (s t : Scene)
+    → Served (heal_one_stage (Copying x b v k)) r at s t → fault_of r ≡ None
+    → CopyMade b k.dir k.name x.directory v.home.depth None s t r
+    → GoesOn (heal_one_stage (Copying x b v k)) (heal_one_stage (copy_answered x b v k r)) r t
 copy_step x b v k r at s t w z (NoParent q none) =
     by_test (λ n. GoesOn (heal_one_stage (Copying x b v k)) (heal_one_stage n) r t) (is_nodir r) _ _
     (λ e. parent_step x b v k r at s t w z (ap (λ (y : Reply). is_carried (reply_kind y)) q) none)
@@ -405,7 +493,10 @@ copy_step x b v k r at s t w z (Made q sets) = copy_to x b v k r at s t w (ap is
 
 -- ---- the ranges
 
-layout_step : (x : Target) (b : BrickNo) (line : ℕ) (r : Reply) (at : ℕ) (s t : Scene) → Served (heal_one_stage (Laying x b line)) r at s t → RangeSet x b s t r → GoesOn (heal_one_stage (Laying x b line)) (heal_one_stage (layout_answered x b line r)) r t
+layout_step :
+    (x : Target) (b : BrickNo) (line : ℕ) (r : Reply) (at : ℕ) (s t : Scene)
+    → Served (heal_one_stage (Laying x b line)) r at s t → RangeSet x b s t r
+    → GoesOn (heal_one_stage (Laying x b line)) (heal_one_stage (layout_answered x b line r)) r t
 layout_step x b line r at s t w set = by_test (λ n. GoesOn (heal_one_stage (Laying x b line)) (heal_one_stage n) r t) (is_carried (reply_kind r)) (laid x b line) _
     (λ e. goes (Laying x b line) (laid x b line) (x.bricks - (b.0 + 1) + 1) r at s t
     (laid_ready x b line t w.after
@@ -444,7 +535,10 @@ layout_step x b line r at s t w set = by_test (λ n. GoesOn (heal_one_stage (Lay
 
 -- ---- the end
 
-unlock_step : (x : Target) (d : HealedOne) (r : Reply) (at : ℕ) (s t : Scene) → Served (heal_one_stage (Unlocking x d)) r at s t → EndsIn (heal_one_stage (Unlocking x d)) (healed_one x.directory d) t
+unlock_step :
+    (x : Target) (d : HealedOne) (r : Reply) (at : ℕ) (s t : Scene)
+    → Served (heal_one_stage (Unlocking x d)) r at s t
+    → EndsIn (heal_one_stage (Unlocking x d)) (healed_one x.directory d) t
 unlock_step x d r at s t w =
     let h = w.is_at.knows in
     record {
@@ -457,7 +551,9 @@ unlock_step x d r at s t w =
 
 -- ---- all of it
 
-pub heal_one_moves : (m : HealOne) (r : Reply) (at : ℕ) → Moves heal_one_stage (healed_one (target_of m).directory) m r at (heal_one_after m r at)
+pub heal_one_moves :
+    (m : HealOne) (r : Reply) (at : ℕ)
+    → Moves heal_one_stage (healed_one (target_of m).directory) m r at (heal_one_after m r at)
 heal_one_moves (Locking x) r at s t v = unless (Locking x) (lock_answered x r) (fault_of r) r at s t refl (omega arith) v (lock_step x r at s t v)
 heal_one_moves (Surveying x b y) r at s t v = unless (Surveying x b y) (survey_answered x b y r at) (fault_of r) r at s t refl (let within = v.is_at.knows.within in omega arith) v (survey_step x b y r at s t v)
 heal_one_moves (Copying x b y k) r at s t v = unless (Copying x b y k) (copy_answered x b y k r) (fault_of r) r at s t refl (let within = v.is_at.knows.within in omega arith) v
@@ -467,20 +563,31 @@ heal_one_moves (Laying x b line) r at s t v = unless (Laying x b line) (layout_a
 heal_one_moves (Unlocking x d) r at s t v = unlock_step x d r at s t v
 
 -- of some directory
-some_of : (m : HealOne) (turn : Turn HealOne HealedOne) (r : Reply) (t : Scene) → MatchTurn turn (λ n. GoesOn (heal_one_stage m) (heal_one_stage n) r t) (λ d. EndsIn (heal_one_stage m) (healed_one (target_of m).directory d) t) → MatchTurn turn (λ n. GoesOn (heal_one_stage m) (heal_one_stage n) r t) (λ d. EndsIn (heal_one_stage m) (healed_some d) t)
+some_of :
+    (m : HealOne) (turn : Turn HealOne HealedOne) (r : Reply) (t : Scene)
+    → MatchTurn turn (λ n. GoesOn (heal_one_stage m) (heal_one_stage n) r t)
+    (λ d. EndsIn (heal_one_stage m) (healed_one (target_of m).directory d) t)
+    → MatchTurn turn (λ n. GoesOn (heal_one_stage m) (heal_one_stage n) r t)
+    (λ d. EndsIn (heal_one_stage m) (healed_some d) t)
 some_of m (Go n) r t h = h
 some_of m (Done d) r t h = record { claims = h.claims; earned = ((target_of m).directory, h.earned) }
 
-pub heal_one_moves_some : (m : HealOne) (r : Reply) (at : ℕ) → Moves heal_one_stage healed_some m r at (heal_one_after m r at)
+pub heal_one_moves_some :
+    (m : HealOne) (r : Reply) (at : ℕ)
+    → Moves heal_one_stage healed_some m r at (heal_one_after m r at)
 heal_one_moves_some m r at s t v = some_of m (heal_one_after m r at) r t (heal_one_moves m r at s t v)
 
 -- ---- the error that it notes
 
-unless_notes : (x : Target) (n : HealOne) (r : Reply) (o : Option Errno) → fault_of r ≡ o → heal_one_fault n ≡ None → heal_one_fault (unless_fault o x n) ≡ fault_of r
+unless_notes :
+    (x : Target) (n : HealOne) (r : Reply) (o : Option Errno) → fault_of r ≡ o
+    → heal_one_fault n ≡ None → heal_one_fault (unless_fault o x n) ≡ fault_of r
 unless_notes x n r None z e = e ∙ sym z
 unless_notes x n r (Some f) z e = sym z
 
-sound_if : (c : Bool) (a b : HealOne) → heal_one_fault a ≡ None → heal_one_fault b ≡ None → heal_one_fault (if c then a else b) ≡ None
+sound_if :
+    (c : Bool) (a b : HealOne) → heal_one_fault a ≡ None → heal_one_fault b ≡ None
+    → heal_one_fault (if c then a else b) ≡ None
 sound_if true a b h k = h
 sound_if false a b h k = k
 
@@ -498,13 +605,19 @@ copied_sound x v from = by v.home.place
     by None = settled_sound x v
     by (Some k) = found k (next_missing x.bricks v.copies from)
 
-survey_sound : (x : Target) (b : BrickNo) (v : Survey) (r : Reply) (at : ℕ) → heal_one_fault (survey_answered x b v r at) ≡ None
+survey_sound :
+    (x : Target) (b : BrickNo) (v : Survey) (r : Reply) (at : ℕ)
+    → heal_one_fault (survey_answered x b v r at) ≡ None
 survey_sound x b v r at = sound_if (shows_gone x.directory b r) _ _ refl (sound_if (is_told x.directory r) (surveyed x b (survey_with x.directory v b r at)) _ (sound_if (nat_le (x.bricks - b.0) 1) (copied_from x (survey_with x.directory v b r at) 0) _ (copied_sound x (survey_with x.directory v b r at) 0) refl) refl)
 
-copy_sound : (x : Target) (b : BrickNo) (v : Survey) (k : EntryKey) (r : Reply) → heal_one_fault (copy_answered x b v k r) ≡ None
+copy_sound :
+    (x : Target) (b : BrickNo) (v : Survey) (k : EntryKey) (r : Reply)
+    → heal_one_fault (copy_answered x b v k r) ≡ None
 copy_sound x b v k r = sound_if (is_nodir r) _ _ refl (sound_if (has_copy r && nat_lt b.0 x.bricks) (copied_from x v (b.0 + 1)) _ (copied_sound x v (b.0 + 1)) refl)
 
-layout_sound : (x : Target) (b : BrickNo) (line : ℕ) (r : Reply) → heal_one_fault (layout_answered x b line r) ≡ None
+layout_sound :
+    (x : Target) (b : BrickNo) (line : ℕ) (r : Reply)
+    → heal_one_fault (layout_answered x b line r) ≡ None
 layout_sound x b line r = sound_if (is_carried (reply_kind r)) (laid x b line) _ (sound_if (nat_le (x.bricks - b.0) 1) _ _ refl refl) refl
 
 pub heal_one_notes : (m : HealOne) (r : Reply) (at : ℕ) → NotesStop m r (heal_one_after m r at)
@@ -516,7 +629,8 @@ heal_one_notes (Unlocking x d) r at = either_none (told_fault d)
 
 -- ---- what it sends again
 
-unless_none : (x : Target) (n m : HealOne) (o : Option Errno) → o ≡ None → n ≡ m → unless_fault o x n ≡ m
+unless_none :
+    (x : Target) (n m : HealOne) (o : Option Errno) → o ≡ None → n ≡ m → unless_fault o x n ≡ m
 unless_none x n m o z e = ap (λ (f : Option Errno). unless_fault f x n) z ∙ e
 
 taken_else : (c : Bool) (a b : HealOne) → c ≡ false → (if c then a else b) ≡ b
@@ -524,7 +638,8 @@ taken_else true a b e = absurd (let z : true ≡ false = e in cc)
 taken_else false a b e = refl
 
 -- a reply that shows nothing shows neither that the directory is gone, nor what a brick has of it
-hidden : (r : Reply) → is_shown r ≡ false → (is_carried (reply_kind r) ≡ false) × (is_nodir r ≡ false)
+hidden :
+    (r : Reply) → is_shown r ≡ false → (is_carried (reply_kind r) ≡ false) × (is_nodir r ≡ false)
 hidden (reply.Ok g) e = absurd (let z : true ≡ false = e in cc)
 hidden (reply.Refused why.Nodir) e = absurd (let z : true ≡ false = e in cc)
 hidden (reply.Refused w) e = (refl, refl)
@@ -533,14 +648,18 @@ hidden reply.Down e = (refl, refl)
 hidden reply.Failed e = (refl, refl)
 hidden reply.NoMemory e = (refl, refl)
 
-survey_again : (x : Target) (b : BrickNo) (v : Survey) (r : Reply) (at : ℕ) → is_shown r ≡ false → survey_answered x b v r at ≡ Surveying x b v
+survey_again :
+    (x : Target) (b : BrickNo) (v : Survey) (r : Reply) (at : ℕ) → is_shown r ≡ false
+    → survey_answered x b v r at ≡ Surveying x b v
 survey_again x b v r at e =
     let h = hidden r e in
     taken_else (shows_gone x.directory b r) _ _ (ap (λ (c : Bool). c && nat_eq b.0 (home x.directory)) h.1)
     ∙ taken_else (is_told x.directory r) (surveyed x b (survey_with x.directory v b r at)) _
     (ap (λ (c : Bool). c || (is_nodir r && not (same_gfid x.directory root))) h.0 ∙ ap (λ (c : Bool). c && not (same_gfid x.directory root)) h.1)
 
-pub heal_one_again : (m : HealOne) (r : Reply) (at : ℕ) → IsUnanswered (heal_one_stage m) r → heal_one_after m r at ≡ Go m
+pub heal_one_again :
+    (m : HealOne) (r : Reply) (at : ℕ) → IsUnanswered (heal_one_stage m) r
+    → heal_one_after m r at ≡ Go m
 heal_one_again (Locking x) r at h = absurd h.1
 heal_one_again (Surveying x b v) r at h = ap Go (unless_none x (survey_answered x b v r at) (Surveying x b v) (fault_of r) h.0 (survey_again x b v r at h.1))
 heal_one_again (Copying x b v k) r at h = absurd h.1

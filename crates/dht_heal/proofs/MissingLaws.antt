@@ -6,13 +6,17 @@ use Rattle.dht_section.proofs.EarlyLaws.{nat_cases}
 use Rattle.dht_section.specs.Looks.{mark_at}
 use Rattle.dht_heal.specs.HealOne.{first_missing, next_missing}
 
-pub missing_here : (bricks : ℕ) (marks : List Bool) (b : ℕ) → b < bricks → mark_at marks b ≡ false → next_missing bricks marks b ≡ Some (record { 0 = b })
+pub missing_here :
+    (bricks : ℕ) (marks : List Bool) (b : ℕ) → b < bricks → mark_at marks b ≡ false
+    → next_missing bricks marks b ≡ Some (record { 0 = b })
 unfolding first_missing
 missing_here bricks marks b l e =
     let n : bricks - b ≡ suc (bricks - (b + 1)) = omega arith in
     ap (first_missing marks b) n ∙ ap (λ (v : Bool). if v then first_missing marks (suc b) (bricks - (b + 1)) else Some (record { 0 = b })) e
 
-pub missing_above : (bricks : ℕ) (marks : List Bool) (b : ℕ) → b < bricks → mark_at marks b ≡ true → next_missing bricks marks b ≡ next_missing bricks marks (b + 1)
+pub missing_above :
+    (bricks : ℕ) (marks : List Bool) (b : ℕ) → b < bricks → mark_at marks b ≡ true
+    → next_missing bricks marks b ≡ next_missing bricks marks (b + 1)
 unfolding first_missing
 missing_above bricks marks b l e =
     let n : bricks - b ≡ suc (bricks - (b + 1)) = omega arith in
@@ -21,11 +25,13 @@ missing_above bricks marks b l e =
     ∙ (ap (λ (v : Bool). if v then first_missing marks (suc b) (bricks - (b + 1)) else Some (record { 0 = b })) e
     ∙ ap (λ (i : ℕ). first_missing marks i (bricks - (b + 1))) q)
 
-pub missing_past : (bricks : ℕ) (marks : List Bool) (b : ℕ) → bricks ≤ b → next_missing bricks marks b ≡ None
+pub missing_past :
+    (bricks : ℕ) (marks : List Bool) (b : ℕ) → bricks ≤ b → next_missing bricks marks b ≡ None
 unfolding first_missing
 missing_past bricks marks b l = (let n : bricks - b ≡ 0 = omega arith in ap (first_missing marks b) n)
 
--- what is found from a brick on, below a limit: none, as all have a copy; or the first that had none
+-- what is found from a brick on, below a limit: none,
+-- as all have a copy; or the first that had none
 abbrev pub AllMarked : List Bool → ℕ → ℕ → Type 0
 AllMarked marks from limit = (i : ℕ) → from ≤ i → i < limit → mark_at marks i ≡ true
 
@@ -39,7 +45,9 @@ abbrev pub Finds : List Bool → ℕ → ℕ → Option BrickNo → Type 0
 Finds marks from limit None = AllMarked marks from limit
 Finds marks from limit (Some b) = IsMissing marks from limit b
 
-marked_more : (marks : List Bool) (from limit : ℕ) → mark_at marks from ≡ true → AllMarked marks (suc from) limit → AllMarked marks from limit
+marked_more :
+    (marks : List Bool) (from limit : ℕ) → mark_at marks from ≡ true
+    → AllMarked marks (suc from) limit → AllMarked marks from limit
 marked_more marks from limit e h i a l = elim (nat_cases i from) [
   | inl q ↦ ap (mark_at marks) q ∙ e
   | inr ne ↦ h i (later i from a ne) l
@@ -57,7 +65,9 @@ marked_more marks from limit e h i a l = elim (nat_cases i from) [
         by (suc i) zero a ne = omega arith
         by (suc i) (suc n) a ne = (let k = by i n (omega arith) (λ e. ne (ap suc e)) in omega arith)
 
-found_more : (marks : List Bool) (from limit : ℕ) (o : Option BrickNo) → mark_at marks from ≡ true → Finds marks (suc from) limit o → Finds marks from limit o
+found_more :
+    (marks : List Bool) (from limit : ℕ) (o : Option BrickNo) → mark_at marks from ≡ true
+    → Finds marks (suc from) limit o → Finds marks from limit o
 found_more marks from limit None e h = marked_more marks from limit e h
 found_more marks from limit (Some b) e h = record {
   above = let a = h.above in omega arith;
@@ -66,7 +76,9 @@ found_more marks from limit (Some b) e h = record {
   before = marked_more marks from b.0 e h.before;
 }
 
-finds : (marks : List Bool) (from more : ℕ) → Finds marks from (from + more) (first_missing marks from more)
+finds :
+    (marks : List Bool) (from more : ℕ)
+    → Finds marks from (from + more) (first_missing marks from more)
 unfolding first_missing
 finds marks from zero = λ i a l. absurd (omega arith)
 finds marks from (suc more) = by (mark_at marks from) refl (subst (λ (n : ℕ). Finds marks (suc from) n (first_missing marks (suc from) more)) (let q : suc from + more ≡ from + suc more = omega arith in q) (finds marks (suc from) more))
@@ -75,5 +87,7 @@ finds marks from (suc more) = by (mark_at marks from) refl (subst (λ (n : ℕ).
     by true e h = found_more marks from (from + suc more) (first_missing marks (suc from) more) e h
     by false e h = record { above = omega arith; below = omega arith; unmarked = e; before = λ i a l. absurd (omega arith) }
 
-pub finds_missing : (bricks : ℕ) (marks : List Bool) (from : ℕ) → from ≤ bricks → Finds marks from bricks (next_missing bricks marks from)
+pub finds_missing :
+    (bricks : ℕ) (marks : List Bool) (from : ℕ) → from ≤ bricks
+    → Finds marks from bricks (next_missing bricks marks from)
 finds_missing bricks marks from l = subst (λ (n : ℕ). Finds marks from n (next_missing bricks marks from)) (let q : from + (bricks - from) ≡ bricks = omega arith in q) (finds marks from (bricks - from))

@@ -15,7 +15,10 @@ same_some x y e = let z : Some x ≡ Some y = e in cc
 
 -- ---- a directory that is gone leaves none below it
 
-gone_step : (path : List Gfid) (i : ℕ) (s : Scene) → IsTree s.history.tree → IsStep path i s → s.history.tree.dirs (path_at path (suc i)) ≡ false → s.history.tree.dirs (path_at path i) ≡ false
+gone_step :
+    (path : List Gfid) (i : ℕ) (s : Scene) → IsTree s.history.tree → IsStep path i s
+    → s.history.tree.dirs (path_at path (suc i)) ≡ false
+    → s.history.tree.dirs (path_at path i) ≡ false
 gone_step path i s tree h gone = by (s.history.tree.dirs (path_at path i)) refl
   where
     by : (v : Bool) → s.history.tree.dirs (path_at path i) ≡ v → v ≡ false
@@ -27,16 +30,24 @@ gone_step path i s tree h gone = by (s.history.tree.dirs (path_at path i)) refl
         let there : s.history.tree.dirs (path_at path (suc i)) ≡ true = tree.housed (path_at path (suc i), h.name) (ap is_some node) in
         absurd (let z : true ≡ false = sym there ∙ gone in cc)
 
-pub gone_below : (c : Climb) (i : ℕ) (s : Scene) → IsTree s.history.tree → IsPath c s → i ≤ c.place → s.history.tree.dirs (path_at c.room.path i) ≡ false → s.history.tree.dirs (path_at c.room.path 0) ≡ false
+pub gone_below :
+    (c : Climb) (i : ℕ) (s : Scene) → IsTree s.history.tree → IsPath c s → i ≤ c.place
+    → s.history.tree.dirs (path_at c.room.path i) ≡ false
+    → s.history.tree.dirs (path_at c.room.path 0) ≡ false
 gone_below c zero s tree h l gone = gone
 gone_below c (suc i) s tree h l gone = gone_below c i s tree h (omega arith) (gone_step c.room.path i s tree (h.steps i (omega arith)) gone)
 
 -- ---- its directories differ
 
-step_depth : (path : List Gfid) (i : ℕ) (s : Scene) → IsStep path i s → depth_of s.history.tree (path_at path i) ≡ depth_of s.history.tree (path_at path (suc i)) + 1
+step_depth :
+    (path : List Gfid) (i : ℕ) (s : Scene) → IsStep path i s
+    → depth_of s.history.tree (path_at path i) ≡ depth_of s.history.tree (path_at path (suc i)) + 1
 step_depth path i s h = ap depth_in h.stands ∙ ap (λ (n : ℕ). n + 1) (sym (ap depth_in h.parent))
 
-deeper : (c : Climb) (i j : ℕ) (s : Scene) → IsPath c s → i < j → j ≤ c.place → depth_of s.history.tree (path_at c.room.path j) < depth_of s.history.tree (path_at c.room.path i)
+deeper :
+    (c : Climb) (i j : ℕ) (s : Scene) → IsPath c s → i < j → j ≤ c.place
+    → depth_of s.history.tree (path_at c.room.path j)
+    < depth_of s.history.tree (path_at c.room.path i)
 deeper c i zero s h l k = absurd (omega arith)
 deeper c i (suc j) s h l k = by (λ q. deeper c i j s h q (omega arith)) (nat_lt i j) refl
   where
@@ -51,7 +62,9 @@ deeper c i (suc j) s h l k = by (λ q. deeper c i j s h q (omega arith)) (nat_lt
         let depth : depth_of s.history.tree (path_at c.room.path j) ≡ depth_of s.history.tree (path_at c.room.path i) = ap (λ (n : ℕ). depth_of s.history.tree (path_at c.room.path n)) same in
         omega arith
 
-pub apart : (c : Climb) (i j : ℕ) (s : Scene) → IsPath c s → i < j → j ≤ c.place → path_at c.room.path j ≢ path_at c.room.path i
+pub apart :
+    (c : Climb) (i j : ℕ) (s : Scene) → IsPath c s → i < j → j ≤ c.place
+    → path_at c.room.path j ≢ path_at c.room.path i
 apart c i j s h l k e =
     let less = deeper c i j s h l k in
     let same = ap (depth_of s.history.tree) e in
@@ -64,7 +77,10 @@ record OnPath (c : Climb) (p : Gfid) : Type 0 where
   within : place ≤ c.place
   is : path_at c.room.path place ≡ p
 
-on_path : (c : Climb) (s : Scene) (p : Gfid) → IsTree s.history.tree → IsPath c s → path_at c.room.path c.place ≡ root → IsAbove s.history.tree (path_at c.room.path 0) p → OnPath c p
+on_path :
+    (c : Climb) (s : Scene) (p : Gfid) → IsTree s.history.tree → IsPath c s
+    → path_at c.room.path c.place ≡ root → IsAbove s.history.tree (path_at c.room.path 0) p
+    → OnPath c p
 on_path c s p tree h ends Self = record { place = 0; within = omega arith; is = refl }
 on_path c s p tree h ends (Above e g above node) = by (on_path c s g tree h ends above)
   where
@@ -93,7 +109,11 @@ on_path c s p tree h ends (Above e g above node) = by (on_path c s g tree h ends
     by q = at q.place q.within q.is (nat_lt q.place c.place) refl
 
 -- so where all of its directories are whole the first is healed
-pub path_healed : (c : Climb) (s : Scene) → IsTree s.history.tree → IsPath c s → path_at c.room.path c.place ≡ root → ((j : ℕ) → j ≤ c.place → IsWhole s.disk (path_at c.room.path j)) → IsHealed s.disk s.history.tree (path_at c.room.path 0)
+pub path_healed :
+    (c : Climb) (s : Scene) → IsTree s.history.tree → IsPath c s
+    → path_at c.room.path c.place ≡ root
+    → ((j : ℕ) → j ≤ c.place → IsWhole s.disk (path_at c.room.path j))
+    → IsHealed s.disk s.history.tree (path_at c.room.path 0)
 path_healed c s tree h ends whole p above =
     let q = on_path c s p tree h ends above in
     subst (IsWhole s.disk) q.is (whole q.place q.within)

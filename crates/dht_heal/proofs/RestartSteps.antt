@@ -71,7 +71,11 @@ release_keeps m = by (nat_lt 0 m.place)
     by false = refl
 
 -- no lock is held any more: the heal begins
-heals_next : (m : Release) (room : HealRoom) (p : Prepared) (r : Reply) (t : Scene) → Sound t → p.scope ≡ m.scope → 0 < length m.scope.names → IsRoom room t → EndsIn (release_stage m) (released_ending p) t → GoesOn (restart_stage (Releasing m room)) (restart_stage (heal_first room p)) r t
+heals_next :
+    (m : Release) (room : HealRoom) (p : Prepared) (r : Reply) (t : Scene) → Sound t
+    → p.scope ≡ m.scope → 0 < length m.scope.names → IsRoom room t
+    → EndsIn (release_stage m) (released_ending p) t
+    → GoesOn (restart_stage (Releasing m room)) (restart_stage (heal_first room p)) r t
 heals_next m room p r t sound same named there ends =
     let few = sound.kept.few in
     let counted = sound.kept.counted in
@@ -89,7 +93,13 @@ heals_next m room p r t sound same named there ends =
       nearer = λ u. (λ w. omega arith, omega arith);
     }
 
-released_step : (m : Release) (room : HealRoom) (turn : Turn Release Prepared) (r : Reply) (at : ℕ) (s t : Scene) → MatchTurn turn (λ n. GoesOn (release_stage m) (release_stage n) r t) (λ d. EndsIn (release_stage m) (released_ending d) t) → OfScope m.scope turn → Served (restart_stage (Releasing m room)) r at s t → Went (Releasing m room) r t (restart_released room turn)
+released_step :
+    (m : Release) (room : HealRoom) (turn : Turn Release Prepared) (r : Reply) (at : ℕ)
+    (s t : Scene)
+    → MatchTurn turn (λ n. GoesOn (release_stage m) (release_stage n) r t)
+    (λ d. EndsIn (release_stage m) (released_ending d) t)
+    → OfScope m.scope turn → Served (restart_stage (Releasing m room)) r at s t
+    → Went (Releasing m room) r t (restart_released room turn)
 released_step m room (Go n) r at s t went same v =
     let k = v.is_at.knows.1 in
     let beside : Releases n room t = record { memory = room_moved room s t _ r k.memory v.moved; named = subst (λ (w : Scoped). 0 < length w.names) (sym same) k.named } in
@@ -101,15 +111,27 @@ released_step m room (Done p) r at s t went same v =
 
 -- ---- the heal
 
-awaits_moved : (m n : Heal) (p : Prepared) (s t : Scene) (a : Ask) (r : Reply) → heal_dir n ≡ heal_dir m → Awaits m p s → Guarantee s a r t → Awaits n p t
+awaits_moved :
+    (m n : Heal) (p : Prepared) (s t : Scene) (a : Ask) (r : Reply) → heal_dir n ≡ heal_dir m
+    → Awaits m p s → Guarantee s a r t → Awaits n p t
 awaits_moved m n p s t a r e h g = record { order = h.order; scope = scope_moved p.scope s t a r h.scope g; room = h.room; heals = e ∙ h.heals }
 
 -- the section may begin anew
-ready : (p : Prepared) (e : HealEnd) (t : Scene) → IfAlone (λ s. IsHealed s.disk s.history.tree (first_dir p.scope) ⊎ (s.history.tree.dirs (first_dir p.scope) ≡ false)) t → CanBegin p t → IsRoom e.room t → IsReady p e.room t
+ready :
+    (p : Prepared) (e : HealEnd) (t : Scene)
+    → IfAlone
+    (λ s.
+    IsHealed s.disk s.history.tree (first_dir p.scope)
+    ⊎ (s.history.tree.dirs (first_dir p.scope) ≡ false))
+    t
+    → CanBegin p t → IsRoom e.room t → IsReady p e.room t
 ready p e t alone begins room = record { begins = begins; whole = sees_whole_begun (first_dir p.scope) p t alone; memory = room }
 
 -- an error that a brick brought about is its answer's
-told_step : (m : Heal) (p : Prepared) (e : HealEnd) (t : Scene) → end_dir e ≡ first_dir p.scope → CanBegin p t → HealTold (end_dir e) e.finish t → EndsIn (heal_stage m) (heal_ending e) t → EndsIn (restart_stage (Healing m p)) (restarted_ending (restart_ended p e)) t
+told_step :
+    (m : Heal) (p : Prepared) (e : HealEnd) (t : Scene) → end_dir e ≡ first_dir p.scope
+    → CanBegin p t → HealTold (end_dir e) e.finish t → EndsIn (heal_stage m) (heal_ending e) t
+    → EndsIn (restart_stage (Healing m p)) (restarted_ending (restart_ended p e)) t
 told_step m p e t same begins (IsDone at is was alone) ends =
     subst (λ (f : Finish). EndsIn (restart_stage (Healing m p)) (restarted_ending (restarted_by (brick_fault f.answer) p e.room)) t) (sym is)
     (record {
@@ -127,7 +149,12 @@ told_step m p e t same begins (IsStopped x is brick may) ends =
     (subst (λ (o : Option Errno). EndsIn (restart_stage (Healing m p)) (restarted_ending (restarted_by o p e.room)) t) (sym brick)
     (record { claims = ends.claims; earned = subst (λ (f : Finish). MayAnswer f t) is may }))
 
-healed_step : (m : Heal) (p : Prepared) (turn : Turn Heal HealEnd) (r : Reply) (at : ℕ) (s t : Scene) → MatchTurn turn (λ n. GoesOn (heal_stage m) (heal_stage n) r t) (λ d. EndsIn (heal_stage m) (heal_ending d) t) → KeepsDir m turn → Served (restart_stage (Healing m p)) r at s t → Went (Healing m p) r t (restart_healed p turn)
+healed_step :
+    (m : Heal) (p : Prepared) (turn : Turn Heal HealEnd) (r : Reply) (at : ℕ) (s t : Scene)
+    → MatchTurn turn (λ n. GoesOn (heal_stage m) (heal_stage n) r t)
+    (λ d. EndsIn (heal_stage m) (heal_ending d) t)
+    → KeepsDir m turn → Served (restart_stage (Healing m p)) r at s t
+    → Went (Healing m p) r t (restart_healed p turn)
 healed_step m p (Go n) r at s t went same v = part_goes_on (heal_stage m) (heal_stage n) 0 (λ s. Awaits m p s) (λ s. Awaits n p s) r t went (awaits_moved m n p s t _ r same v.is_at.knows.1 v.moved)
 healed_step m p (Done e) r at s t went same v =
     let k = awaits_moved m m p s t _ r refl v.is_at.knows.1 v.moved in
@@ -135,21 +162,28 @@ healed_step m p (Done e) r at s t went same v =
 
 -- ---- all of it
 
-pub restart_moves : (m : Restart) (r : Reply) (at : ℕ) → Moves restart_stage restarted_ending m r at (restart_after m r at)
+pub restart_moves :
+    (m : Restart) (r : Reply) (at : ℕ)
+    → Moves restart_stage restarted_ending m r at (restart_after m r at)
 restart_moves (Releasing m room) r at s t v = released_step m room (release_after m) r at s t (release_moves m r at s t (part_served (release_stage m) (heal_cost m.scope.bricks) (λ s. Releases m room s) r at s t v)) (release_keeps m) v
 restart_moves (Healing m p) r at s t v = healed_step m p (heal_after m r at) r at s t (heal_moves m r at s t (part_served (heal_stage m) 0 (λ s. Awaits m p s) r at s t v)) (heal_keeps m r at) v
 
 -- ---- what it is of
 
-released_keeps : (m : Release) (room : HealRoom) (turn : Turn Release Prepared) → OfScope m.scope turn → KeepsScope (Releasing m room) (restart_released room turn)
+released_keeps :
+    (m : Release) (room : HealRoom) (turn : Turn Release Prepared) → OfScope m.scope turn
+    → KeepsScope (Releasing m room) (restart_released room turn)
 released_keeps m room (Go n) e = e
 released_keeps m room (Done p) e = e
 
-ended_keeps : (p : Prepared) (o : Option Errno) (room : HealRoom) → IsOfScope p.scope (restarted_by o p room)
+ended_keeps :
+    (p : Prepared) (o : Option Errno) (room : HealRoom) → IsOfScope p.scope (restarted_by o p room)
 ended_keeps p None room = refl
 ended_keeps p (Some e) room = tt
 
-healed_keeps : (m : Heal) (p : Prepared) (turn : Turn Heal HealEnd) → KeepsScope (Healing m p) (restart_healed p turn)
+healed_keeps :
+    (m : Heal) (p : Prepared) (turn : Turn Heal HealEnd)
+    → KeepsScope (Healing m p) (restart_healed p turn)
 healed_keeps m p (Go n) = refl
 healed_keeps m p (Done e) = ended_keeps p (end_fault e) e.room
 
@@ -159,7 +193,9 @@ restart_keeps (Healing m p) r at = healed_keeps m p (heal_after m r at)
 
 -- ---- the error that it notes
 
-released_notes : (m : Release) (room : HealRoom) (turn : Turn Release Prepared) (r : Reply) → NotesFault (Releasing m room) r (restart_released room turn)
+released_notes :
+    (m : Release) (room : HealRoom) (turn : Turn Release Prepared) (r : Reply)
+    → NotesFault (Releasing m room) r (restart_released room turn)
 released_notes m room (Go n) r = refl
 released_notes m room (Done p) r = first_notes room p.scope.bricks (first_dir p.scope)
   where
@@ -187,11 +223,15 @@ same_fault (answer.Made f) = refl
 same_fault answer.Done = refl
 same_fault (answer.Fault e) = same_error e
 
-ended_fault : (o : Option Errno) (p : Prepared) (room : HealRoom) → restarted_fault (restarted_by o p room) ≡ part_fault o
+ended_fault :
+    (o : Option Errno) (p : Prepared) (room : HealRoom)
+    → restarted_fault (restarted_by o p room) ≡ part_fault o
 ended_fault None p room = refl
 ended_fault (Some e) p room = refl
 
-healed_notes : (m : Heal) (p : Prepared) (turn : Turn Heal HealEnd) (r : Reply) → NotesStop m r turn → NotesFault (Healing m p) r (restart_healed p turn)
+healed_notes :
+    (m : Heal) (p : Prepared) (turn : Turn Heal HealEnd) (r : Reply) → NotesStop m r turn
+    → NotesFault (Healing m p) r (restart_healed p turn)
 healed_notes m p (Go n) r e = e
 healed_notes m p (Done d) r e = ended_fault (end_fault d) p d.room ∙ (same_fault d.finish.answer ∙ e)
 
@@ -201,13 +241,17 @@ restart_notes (Healing m p) r at = healed_notes m p (heal_after m r at) r (heal_
 
 -- ---- what it sends again
 
-pub restart_again : (m : Restart) (r : Reply) (at : ℕ) → IsUnanswered (restart_stage m) r → restart_after m r at ≡ Go m
+pub restart_again :
+    (m : Restart) (r : Reply) (at : ℕ) → IsUnanswered (restart_stage m) r
+    → restart_after m r at ≡ Go m
 restart_again (Releasing m room) r at h = absurd h.1
 restart_again (Healing m p) r at h = ap (restart_healed p) (heal_again m r at h)
 
 -- ---- its beginning
 
-pub restarts : (h : Held) (room : HealRoom) (s : Scene) → IsHeld h s → IsRoom room s → 0 < length h.scope.names → Restarts h room s
+pub restarts :
+    (h : Held) (room : HealRoom) (s : Scene) → IsHeld h s → IsRoom room s → 0 < length h.scope.names
+    → Restarts h room s
 restarts h room s k there named =
     let x = releases h s k in
     let v = x.variant in
@@ -220,7 +264,9 @@ restarts h room s k there named =
 -- ---- the section that begins anew
 
 -- it sends as many requests at most as the first one
-pub begun_variant : (l : Location) (p : Prepared) → p.scope ≡ scope_at l → (section_stage (begun p)).variant ≡ l.bricks + 4
+pub begun_variant :
+    (l : Location) (p : Prepared) → p.scope ≡ scope_at l
+    → (section_stage (begun p)).variant ≡ l.bricks + 4
 begun_variant l p e = ap (λ (w : Scoped). length w.keys - 0 + looks_left w.bricks (length w.names) + suc (last_lock w)) e ∙ (starts l.bricks l.directory Shared l.name).variant
 
 -- ---- when a section need not begin anew
@@ -233,10 +279,14 @@ ready_by l h b (Some c) e = by (mark_at (held_looked h (entry_at l)).sight.copie
     by true q = q
     by false q = absurd (let z : None ≡ Some b = q in cc)
 
-pub ready_holds : (l : Location) (h : Held) (b : ℕ) → ready_holder l h ≡ Some b → held_holder h (entry_at l) ≡ Some b
+pub ready_holds :
+    (l : Location) (h : Held) (b : ℕ) → ready_holder l h ≡ Some b
+    → held_holder h (entry_at l) ≡ Some b
 ready_holds l h b e = ready_by l h b (held_holder h (entry_at l)) e
 
-pub ready_there : (l : Location) (h : Held) (b : ℕ) (s : Scene) → Sound s → IsHeldAt l h s → ready_holder l h ≡ Some b → b < s.disk.count
+pub ready_there :
+    (l : Location) (h : Held) (b : ℕ) (s : Scene) → Sound s → IsHeldAt l h s
+    → ready_holder l h ≡ Some b → b < s.disk.count
 ready_there l h b s sound k e =
     let within = holder_within (held_layout h (entry_at l)) (dm l.name) b (ready_holds l h b e) in
     let whole = (looked_is l h s k).whole in
@@ -244,7 +294,8 @@ ready_there l h b s sound k e =
     omega arith
 
 -- after a heal, while the call is alone, there is a holder that showed its copy
-pub has_ready : (l : Location) (h : Held) (s : Scene) (k : HasHolder l h s) → ready_holder l h ≡ Some k.brick
+pub has_ready :
+    (l : Location) (h : Held) (s : Scene) (k : HasHolder l h s) → ready_holder l h ≡ Some k.brick
 has_ready l h s k =
     ap (if_copied l h) k.holds
     ∙ ap (λ (v : Bool). if v then Some k.brick else None) k.copied
@@ -255,6 +306,10 @@ either_way : (turn : Turn Section Opened) → MatchTurn turn (λ n. Unit {0}) (�
 either_way (Go n) = tt
 either_way (Done d) = tt
 
-pub anew_next : (learned : Option (List (Option Range))) (g : Gfid) (m : Section) (r : Reply) (at : ℕ) (s t : Scene) → Served (section_stage m) r at s t → SeesAnew learned g m s → MatchTurn (section_after m r at) (λ n. SeesAnew learned g n t) (λ d. EndsAnew learned g d t)
+pub anew_next :
+    (learned : Option (List (Option Range))) (g : Gfid) (m : Section) (r : Reply) (at : ℕ)
+    (s t : Scene)
+    → Served (section_stage m) r at s t → SeesAnew learned g m s
+    → MatchTurn (section_after m r at) (λ n. SeesAnew learned g n t) (λ d. EndsAnew learned g d t)
 anew_next None g m r at s t v h = either_way (section_after m r at)
 anew_next (Some layout) g m r at s t v h = sees_whole_next g m r at s t v h

@@ -111,7 +111,8 @@ GoneBelow (Some at) d s = WasDir d false at s
 abbrev pub AllWhole : List Gfid → (place top : ℕ) → Scene → Type 0
 AllWhole path place top s = (j : ℕ) → place < j → j ≤ top → IsWhole s.disk (path_at path j)
 
--- the path is known up to the root; if the call was alone the directories above the one that is being healed are whole
+-- the path is known up to the root; if the call was alone the
+-- directories above the one that is being healed are whole
 pub record Heals (m : HealOne) (c : Climb) (s : Scene) : Type 0 where
   pub top : ℕ
   pub within : c.place ≤ top
@@ -159,9 +160,9 @@ KeepsDir m turn = MatchTurn turn (λ n. heal_dir n ≡ heal_dir m) (λ d. end_di
 abbrev pub healed_at : ℕ → Finish
 healed_at at = record { answer = answer.Done; at = Some at }
 
--- what is true where a heal of a directory ends so: the tree had the directory at that line, and all is
--- whole if the call was alone; or the tree had none, and has none if it was alone; or it was stopped by
--- the error of a brick
+-- what is true where a heal of a directory ends so: the tree had the directory
+-- at that line, and all is whole if the call was alone; or the tree had none,
+-- and has none if it was alone; or it was stopped by the error of a brick
 pub data HealTold (d : Gfid) (f : Finish) (s : Scene) : Type 0 where
   IsDone : (at : ℕ) → f ≡ healed_at at → WasDir d true at s
       → IfAlone (λ x. IsHealed x.disk x.history.tree d) s → HealTold d f s
@@ -278,5 +279,6 @@ end_fault e = brick_fault e.finish.answer
 
 abbrev pub NotesStop : Heal → Reply → Turn Heal HealEnd → Type 0
 NotesStop m r turn =
-    MatchTurn turn (λ n. heal_fault n ≡ either (heal_fault m) (fault_for (heal_stage m).asks.request r))
+    MatchTurn turn
+    (λ n. heal_fault n ≡ either (heal_fault m) (fault_for (heal_stage m).asks.request r))
     (λ d. end_fault d ≡ either (heal_fault m) (fault_for (heal_stage m).asks.request r))

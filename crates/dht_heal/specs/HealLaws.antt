@@ -22,7 +22,9 @@ use Rattle.dht_heal.specs.declared.room.HealRoom.{HealRoom}
 -- ---- what it may ask
 
 -- the homes of the directories of a path are bricks of the volume
-pub path_home : (c : Climb) (s : Scene) (i : ℕ) → Sound s → IsPath c s → i ≤ c.place → home (path_at c.room.path i) < s.disk.count
+pub path_home :
+    (c : Climb) (s : Scene) (i : ℕ) → Sound s → IsPath c s → i ≤ c.place
+    → home (path_at c.room.path i) < s.disk.count
 path_home c s zero sound h l =
     let counted = sound.kept.counted in
     let count = h.count in
@@ -39,7 +41,8 @@ heal_permitted (Healing m c) s sound h = part_permitted (heal_one_stage m) (c.pl
 pub room_stable : (r : HealRoom) (s t : Scene) → IsRoom r s → Rely s t → IsRoom r t
 room_stable r s t h o = record { path = h.path; weights = h.weights ∙ sym o.weights }
 
-step_stable : (path : List Gfid) (i : ℕ) (s t : Scene) → IsStep path i s → Rely s t → IsStep path i t
+step_stable :
+    (path : List Gfid) (i : ℕ) (s t : Scene) → IsStep path i s → Rely s t → IsStep path i t
 step_stable path i s t h o = record {
   name = h.name;
   above = h.above;
@@ -58,14 +61,17 @@ path_stable c s t h o = record {
   steps = λ i l. step_stable c.room.path i s t (h.steps i l) o;
 }
 
-was_stable : (d : Gfid) (there : Bool) (at : ℕ) (s t : Scene) → WasDir d there at s → Rely s t → WasDir d there at t
+was_stable :
+    (d : Gfid) (there : Bool) (at : ℕ) (s t : Scene) → WasDir d there at s → Rely s t
+    → WasDir d there at t
 was_stable d there at s t h o = record {
   after = let a = h.after in let e = o.mine.since in omega arith;
   before = let b = h.before in let l = o.later in omega arith;
   was = ap (λ (p : Tree). p.dirs d) (o.past at h.before) ∙ h.was;
 }
 
-below_stable : (gone : Option ℕ) (d : Gfid) (s t : Scene) → GoneBelow gone d s → Rely s t → GoneBelow gone d t
+below_stable :
+    (gone : Option ℕ) (d : Gfid) (s t : Scene) → GoneBelow gone d s → Rely s t → GoneBelow gone d t
 below_stable None d s t h o = tt
 below_stable (Some at) d s t h o = was_stable d _ at s t h o
 

@@ -49,14 +49,20 @@ abbrev pub anchor_brick : Target → ℕ
 anchor_brick x = if x.bricks == 0 then 0 else anchor x.directory x.bricks
 
 abbrev pub lock_ask : Target → Ask
-lock_ask x = record { brick = record { 0 = anchor_brick x }; request = ALock (DirKey x.directory) Exclusive }
+lock_ask x = record {
+  brick = record { 0 = anchor_brick x };
+  request = ALock (DirKey x.directory) Exclusive;
+}
 
 abbrev pub info_ask : Target → BrickNo → Ask
 info_ask x b = record { brick = b; request = OnNames (Dirinfo x.directory) }
 
 -- a copy has no range at first
 abbrev pub copy_ask : Target → BrickNo → HomeCopy → EntryKey → Ask
-copy_ask x b h k = record { brick = b; request = OnNames (MakeDir k.dir k.name x.directory h.depth None) }
+copy_ask x b h k = record {
+  brick = b;
+  request = OnNames (MakeDir k.dir k.name x.directory h.depth None);
+}
 
 abbrev pub layout_ask : Target → BrickNo → Ask
 layout_ask x b = record {
@@ -65,7 +71,10 @@ layout_ask x b = record {
 }
 
 abbrev pub unlock_ask : Target → Ask
-unlock_ask x = record { brick = record { 0 = anchor_brick x }; request = Unlock (DirKey x.directory) }
+unlock_ask x = record {
+  brick = record { 0 = anchor_brick x };
+  request = Unlock (DirKey x.directory);
+}
 
 -- ---- what it knows
 
@@ -117,7 +126,8 @@ pub record SurveyingKnows (x : Target) (b : BrickNo) (v : Survey) (s : Scene) : 
   pub within : b.0 < x.bricks
   pub shown : Shown x.directory v b.0 s
 
-pub record CopyingKnows (x : Target) (b : BrickNo) (v : Survey) (k : EntryKey) (s : Scene) : Type 0 where
+pub record CopyingKnows (x : Target) (b : BrickNo) (v : Survey) (k : EntryKey) (s : Scene)
+    : Type 0 where
   pub target : IsTarget x s
   pub holds : HoldsAlone s x.directory
   pub within : b.0 < x.bricks
@@ -244,7 +254,8 @@ abbrev pub first_heal_one : ℕ → List (Option Range) → Gfid → HealOne
 first_heal_one bricks plan g = Locking (record { directory = g; bricks = bricks; plan = plan })
 
 -- the scene in which it begins
-pub record MayHealOne (bricks : ℕ) (plan : List (Option Range)) (g : Gfid) (s : Scene) : Type 0 where
+pub record MayHealOne (bricks : ℕ) (plan : List (Option Range)) (g : Gfid) (s : Scene)
+    : Type 0 where
   pub count : length s.history.weights ≡ bricks
   pub home : home g < bricks
   pub planned : plan ≡ planned s.history.weights g
@@ -361,9 +372,11 @@ unless_fault (Some e) x m = Unlocking x (Stopped e)
 
 abbrev pub heal_one_after : HealOne → Reply → ℕ → Turn HealOne HealedOne
 heal_one_after (Locking x) r at = Go (unless_fault (fault_of r) x (lock_answered x r))
-heal_one_after (Surveying x b v) r at = Go (unless_fault (fault_of r) x (survey_answered x b v r at))
+heal_one_after (Surveying x b v) r at =
+    Go (unless_fault (fault_of r) x (survey_answered x b v r at))
 heal_one_after (Copying x b v k) r at = Go (unless_fault (fault_of r) x (copy_answered x b v k r))
-heal_one_after (Laying x b line) r at = Go (unless_fault (fault_of r) x (layout_answered x b line r))
+heal_one_after (Laying x b line) r at =
+    Go (unless_fault (fault_of r) x (layout_answered x b line r))
 heal_one_after (Unlocking x d) r at = Done d
 
 -- ---- the error that it notes
@@ -379,5 +392,7 @@ heal_one_fault m = None
 -- it is stopped exactly by the first reply that tells of a brick's error
 abbrev pub NotesStop : HealOne → Reply → Turn HealOne HealedOne → Type 0
 NotesStop m r turn =
-    MatchTurn turn (λ n. heal_one_fault n ≡ either (heal_one_fault m) (fault_for (heal_one_stage m).asks.request r))
+    MatchTurn turn
+    (λ n. heal_one_fault n
+    ≡ either (heal_one_fault m) (fault_for (heal_one_stage m).asks.request r))
     (λ d. told_fault d ≡ either (heal_one_fault m) (fault_for (heal_one_stage m).asks.request r))

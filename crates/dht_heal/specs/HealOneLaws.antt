@@ -56,7 +56,9 @@ target_bricks x s sound h = sound.kept.counted ∙ h.count
 anchor_by : (x : Target) (n : ℕ) → 0 < n → n ≡ x.bricks → anchor_brick x ≡ anchor x.directory n
 anchor_by x n some e = grind (arith, nat_tests, ap (anchor x.directory) e)
 
-pub anchor_is : (x : Target) (s : Scene) → Sound s → IsTarget x s → anchor_brick x ≡ anchor x.directory s.disk.count
+pub anchor_is :
+    (x : Target) (s : Scene) → Sound s → IsTarget x s
+    → anchor_brick x ≡ anchor x.directory s.disk.count
 anchor_is x s sound h = anchor_by x s.disk.count sound.kept.some_brick (target_bricks x s sound h)
 
 anchor_there : (x : Target) (s : Scene) → Sound s → IsTarget x s → anchor_brick x < s.disk.count
@@ -68,15 +70,21 @@ anchor_there x s sound h =
 -- ---- the directory
 
 -- its home has a copy, so it is one of the tree
-pub home_copied : (g : Gfid) (mark : Bool) (read : Option Range) (s : Scene) → WasShown g mark read (home g) s → IsCopied g (home g) s
+pub home_copied :
+    (g : Gfid) (mark : Bool) (read : Option Range) (s : Scene) → WasShown g mark read (home g) s
+    → IsCopied g (home g) s
 home_copied g true read s h = h.there
 home_copied g false read s h = absurd (h.away refl)
 
-pub in_tree : (g : Gfid) (s : Scene) → Sound s → IsCopied g (home g) s → s.history.tree.dirs g ≡ true
+pub in_tree :
+    (g : Gfid) (s : Scene) → Sound s → IsCopied g (home g) s → s.history.tree.dirs g ≡ true
 in_tree g s sound h = (sound.kept.things.dirs g).homed ∙ h
 
 -- a directory of the tree stands at the name at which it was made
-pub stands_at : (s : Scene) (g : Gfid) (x : Descent) (e : Entry) → Sound s → s.history.tree.dirs g ≡ true → s.history.tree.descents g ≡ Some x → x.place ≡ Some e → s.history.tree.names e ≡ Some (IsDir g)
+pub stands_at :
+    (s : Scene) (g : Gfid) (x : Descent) (e : Entry) → Sound s → s.history.tree.dirs g ≡ true
+    → s.history.tree.descents g ≡ Some x → x.place ≡ Some e
+    → s.history.tree.names e ≡ Some (IsDir g)
 stands_at s g x e sound there is place =
     let p = sound.kept.tree.placed g there in
     let same : Some x ≡ Some p.descent = sym is ∙ p.is in
@@ -84,7 +92,9 @@ stands_at s g x e sound there is place =
     p.stands e (ap (λ (y : Descent). y.place) (sym one) ∙ place)
 
 -- so on each brick the name is its, or nothing's
-folder_by : (s : Scene) (e : Entry) (g : Gfid) (full : What) → StandsSeen e full s → node_seen full ≡ Some (IsDir g) → (on : ℕ → Bool) × NameStands s e (Folder g on)
+folder_by :
+    (s : Scene) (e : Entry) (g : Gfid) (full : What) → StandsSeen e full s
+    → node_seen full ≡ Some (IsDir g) → (on : ℕ → Bool) × NameStands s e (Folder g on)
 folder_by s e g Absent k q = absurd (let z : None ≡ Some (IsDir g) = q in cc)
 folder_by s e g (Dir f) k q =
     let z : Some (IsDir f) ≡ Some (IsDir g) = q in
@@ -92,24 +102,35 @@ folder_by s e g (Dir f) k q =
     (k.0, subst (λ (x : Gfid). NameStands s e (Folder x k.0)) one k.1)
 folder_by s e g (File f b links) k q = absurd (let z : Some (IsFile f) ≡ Some (IsDir g) = q in cc)
 
-pub as_folder : (s : Scene) (e : Entry) (g : Gfid) → Sound s → s.history.tree.names e ≡ Some (IsDir g) → (on : ℕ → Bool) × NameStands s e (Folder g on)
+pub as_folder :
+    (s : Scene) (e : Entry) (g : Gfid) → Sound s → s.history.tree.names e ≡ Some (IsDir g)
+    → (on : ℕ → Bool) × NameStands s e (Folder g on)
 as_folder s e g sound h =
     let full = full_of s e sound in
     folder_by s e g full.0 full.1 (sym (node_there s e full.0 full.1) ∙ h)
 
 -- where a copy is to be made, the directory stands at its name; and the brick is not the home
-pub copying_there : (x : Target) (b : BrickNo) (v : Survey) (k : EntryKey) (s : Scene) → CopyingKnows x b v k s → IsCopied x.directory (home x.directory) s
+pub copying_there :
+    (x : Target) (b : BrickNo) (v : Survey) (k : EntryKey) (s : Scene) → CopyingKnows x b v k s
+    → IsCopied x.directory (home x.directory) s
 copying_there x b v k s h = home_copied x.directory _ _ s (h.shown.bricks (home x.directory) h.target.home)
 
-pub copying_missing : (x : Target) (b : BrickNo) (v : Survey) (k : EntryKey) (s : Scene) → CopyingKnows x b v k s → HadNone x.directory (slice_index_or v.layout b.0 None) b.0 s
+pub copying_missing :
+    (x : Target) (b : BrickNo) (v : Survey) (k : EntryKey) (s : Scene) → CopyingKnows x b v k s
+    → HadNone x.directory (slice_index_or v.layout b.0 None) b.0 s
 copying_missing x b v k s h = subst (λ (m : Bool). WasShown x.directory m (slice_index_or v.layout b.0 None) b.0 s) h.missing (h.shown.bricks b.0 h.within)
 
-pub copying_descent : (x : Target) (b : BrickNo) (v : Survey) (k : EntryKey) (s : Scene) → CopyingKnows x b v k s → s.history.tree.descents x.directory ≡ Some (record { depth = v.home.depth; place = Some (entry_at k) })
+pub copying_descent :
+    (x : Target) (b : BrickNo) (v : Survey) (k : EntryKey) (s : Scene) → CopyingKnows x b v k s
+    → s.history.tree.descents x.directory
+    ≡ Some (record { depth = v.home.depth; place = Some (entry_at k) })
 copying_descent x b v k s h =
     (h.shown.home h.target.home).descent
     ∙ ap (λ (o : Option EntryKey). Some (record { depth = v.home.depth; place = Rattle.std.specs.Option.option_map entry_at o })) h.key
 
-pub copying_folder : (x : Target) (b : BrickNo) (v : Survey) (k : EntryKey) (s : Scene) → Sound s → CopyingKnows x b v k s → (on : ℕ → Bool) × NameStands s (entry_at k) (Folder x.directory on)
+pub copying_folder :
+    (x : Target) (b : BrickNo) (v : Survey) (k : EntryKey) (s : Scene) → Sound s
+    → CopyingKnows x b v k s → (on : ℕ → Bool) × NameStands s (entry_at k) (Folder x.directory on)
 copying_folder x b v k s sound h =
     as_folder s (entry_at k) x.directory sound
     (stands_at s x.directory (record { depth = v.home.depth; place = Some (entry_at k) }) (entry_at k) sound (in_tree x.directory s sound (copying_there x b v k s h)) (copying_descent x b v k s h) refl)
@@ -124,7 +145,9 @@ pub no_range : range_of_value None ≡ None
 unfolding range_of_value
 no_range = refl
 
-makes_copy : (x : Target) (b : BrickNo) (v : Survey) (k : EntryKey) (s : Scene) → Sound s → CopyingKnows x b v k s → Changes s b.0 (MakeDir k.dir k.name x.directory v.home.depth None)
+makes_copy :
+    (x : Target) (b : BrickNo) (v : Survey) (k : EntryKey) (s : Scene) → Sound s
+    → CopyingKnows x b v k s → Changes s b.0 (MakeDir k.dir k.name x.directory v.home.depth None)
 makes_copy x b v k s sound h =
     let folder = copying_folder x b v k s sound h in
     record {
@@ -137,13 +160,16 @@ makes_copy x b v k s sound h =
       also = (inr (in_tree x.directory s sound (copying_there x b v k s h), copying_descent x b v k s h), (inl no_range, inl h.holds, tt));
     }
 
-pub value_read : (r : Option Range) → range_of_value (value_of r) ≡ option_and_then decoded (value_of r)
+pub value_read :
+    (r : Option Range) → range_of_value (value_of r) ≡ option_and_then decoded (value_of r)
 unfolding range_of_value
 value_read None = refl
 value_read (Some r) = refl
 
 -- the planned value is read as the planned range
-pub lays_plan : (x : Target) (b : BrickNo) (s : Scene) → Sound s → IsTarget x s → b.0 < x.bricks → IsPlannedAt s b.0 x.directory (value_of (slice_index_or x.plan b.0 None))
+pub lays_plan :
+    (x : Target) (b : BrickNo) (s : Scene) → Sound s → IsTarget x s → b.0 < x.bricks
+    → IsPlannedAt s b.0 x.directory (value_of (slice_index_or x.plan b.0 None))
 lays_plan x b s sound h within =
     let plan = planned s.history.weights x.directory in
     let size = Rattle.dht_xattr.proofs.PlanLaws.planned_length s.history.weights x.directory in
@@ -191,13 +217,18 @@ pub holds_dir : (g : Gfid) (s : Scene) → HoldsAlone s g → HoldsDir s g
 holds_dir g s h = ap is_some h
 
 -- a copy stays, with its range
-pub has_copy_stable : (g : Gfid) (read : Option Range) (b : ℕ) (s t : Scene) → HoldsAlone s g → HasCopy g read b s → Rely s t → HasCopy g read b t
+pub has_copy_stable :
+    (g : Gfid) (read : Option Range) (b : ℕ) (s t : Scene) → HoldsAlone s g → HasCopy g read b s
+    → Rely s t → HasCopy g read b t
 has_copy_stable g read b s t holds h o = copy_stable g read b s t (dir_at s.disk b g) refl (holds_dir g s holds) h o
 
-copied_stable : (g : Gfid) (b : ℕ) (s t : Scene) → HoldsAlone s g → IsCopied g b s → Rely s t → IsCopied g b t
+copied_stable :
+    (g : Gfid) (b : ℕ) (s t : Scene) → HoldsAlone s g → IsCopied g b s → Rely s t → IsCopied g b t
 copied_stable g b s t holds h o = (has_copy_stable g (range_at s.disk g b) b s t holds (record { there = h; same = refl }) o).there
 
-shown_stable : (g : Gfid) (mark : Bool) (read : Option Range) (b : ℕ) (s t : Scene) → HoldsAlone s g → WasShown g mark read b s → Rely s t → WasShown g mark read b t
+shown_stable :
+    (g : Gfid) (mark : Bool) (read : Option Range) (b : ℕ) (s t : Scene) → HoldsAlone s g
+    → WasShown g mark read b s → Rely s t → WasShown g mark read b t
 shown_stable g true read b s t holds h o = has_copy_stable g read b s t holds h o
 shown_stable g false read b s t holds h o = record {
   below = h.below;
@@ -214,7 +245,9 @@ saw_stable g h s t k o = record {
   descent = o.made g _ k.descent;
 }
 
-all_shown_stable : (g : Gfid) (v : Survey) (limit : ℕ) (s t : Scene) → HoldsAlone s g → Shown g v limit s → Rely s t → Shown g v limit t
+all_shown_stable :
+    (g : Gfid) (v : Survey) (limit : ℕ) (s t : Scene) → HoldsAlone s g → Shown g v limit s
+    → Rely s t → Shown g v limit t
 all_shown_stable g v limit s t holds h o = record {
   room = h.room;
   whole = h.whole;
@@ -230,10 +263,13 @@ was_stable g at s t k o = record {
 }
 
 -- what hangs on the tree and the bricks' stores alone
-pub dirs_stay : (g : Gfid) (v : Bool) (s t : Scene) → StoresTheSame s t → s.history.tree.dirs g ≡ v → t.history.tree.dirs g ≡ v
+pub dirs_stay :
+    (g : Gfid) (v : Bool) (s t : Scene) → StoresTheSame s t → s.history.tree.dirs g ≡ v
+    → t.history.tree.dirs g ≡ v
 dirs_stay g v s t same e = ap (λ (p : Tree). p.dirs g) same.tree ∙ e
 
-pub no_parent_stays : (g : Gfid) (b : ℕ) (s t : Scene) → StoresTheSame s t → HasNoParent g b s → HasNoParent g b t
+pub no_parent_stays :
+    (g : Gfid) (b : ℕ) (s t : Scene) → StoresTheSame s t → HasNoParent g b s → HasNoParent g b t
 no_parent_stays g b s t same h = (h.0, h.1, ap (λ (p : Tree). p.descents g) same.tree ∙ h.2, h.3, same_dir s t b h.1.0 same ∙ h.4)
 
 pub told_stable : (g : Gfid) (d : HealedOne) (s t : Scene) → Told g d s → Rely s t → Told g d t

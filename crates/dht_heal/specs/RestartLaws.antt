@@ -29,7 +29,8 @@ pub restart_permitted : (m : Restart) → MaySend (restart_stage m)
 restart_permitted (Releasing m room) = part_permitted (release_stage m) (heal_cost m.scope.bricks) (λ s. Releases m room s) (release_permitted m)
 restart_permitted (Healing m p) = part_permitted (heal_stage m) 0 (λ s. Awaits m p s) (heal_permitted m)
 
-releases_stable : (m : Release) (room : HealRoom) (s t : Scene) → Releases m room s → Rely s t → Releases m room t
+releases_stable :
+    (m : Release) (room : HealRoom) (s t : Scene) → Releases m room s → Rely s t → Releases m room t
 releases_stable m room s t h o = record { memory = room_stable room s t h.memory o; named = h.named }
 
 awaits_stable : (m : Heal) (p : Prepared) (s t : Scene) → Awaits m p s → Rely s t → Awaits m p t
@@ -41,10 +42,14 @@ restart_stable (Healing m p) = part_stable (heal_stage m) 0 (λ s. Awaits m p s)
 
 -- ---- a section that began after a heal
 
-pub sees_anew_stable : (learned : Option (List (Option Range))) (g : Gfid) (m : Section) (s t : Scene) → SeesAnew learned g m s → Rely s t → SeesAnew learned g m t
+pub sees_anew_stable :
+    (learned : Option (List (Option Range))) (g : Gfid) (m : Section) (s t : Scene)
+    → SeesAnew learned g m s → Rely s t → SeesAnew learned g m t
 sees_anew_stable None g m s t h o = tt
 sees_anew_stable (Some layout) g m s t h o = sees_whole_stable g m s t h o
 
-pub ends_anew_stable : (learned : Option (List (Option Range))) (g : Gfid) (out : Opened) (s t : Scene) → EndsAnew learned g out s → Rely s t → EndsAnew learned g out t
+pub ends_anew_stable :
+    (learned : Option (List (Option Range))) (g : Gfid) (out : Opened) (s t : Scene)
+    → EndsAnew learned g out s → Rely s t → EndsAnew learned g out t
 ends_anew_stable None g out s t h o = tt
 ends_anew_stable (Some layout) g out s t h o = if_alone_stable (IsWholeOrGone g (ShowedOpened g out)) (λ a b. whole_or_gone_stays a b g (ShowedOpened g out)) s t h o

@@ -37,8 +37,8 @@ fn ended(end: HealEnd) -> Ended
 }
 
 impl HealCall {
-    /// The heal of a directory, in a volume of so many bricks, which have these weights. It takes the
-    /// memory that the heal will need.
+    /// The heal of a directory, in a volume of so many bricks, which have these weights. It takes
+    /// the memory that the heal will need.
     pub fn begin(
         alloc: Global,
         weights: &Weights,

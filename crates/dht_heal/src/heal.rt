@@ -35,8 +35,8 @@ pub enum Heal {
     /// The directories below this place stand each in the next. The one at this place, which is not
     /// the root, is asked at its home where it stands.
     Climbing(Climb),
-    /// The path is known up to the root. The directories above this place are healed, and the one at
-    /// this place is being healed.
+    /// The path is known up to the root. The directories above this place are healed, and the one
+    /// at this place is being healed.
     Healing(HealOne, Climb),
 }
 

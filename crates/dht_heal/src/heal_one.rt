@@ -1,5 +1,5 @@
-//! One directory is healed, under its lock: each brick that has no copy of it gets one, and where its
-//! ranges leave out a hash, or share one, each brick gets the planned range.
+//! One directory is healed, under its lock: each brick that has no copy of it gets one, and where
+//! its ranges leave out a hash, or share one, each brick gets the planned range.
 
 ghost use Rattle.std.specs.Prelude.{◌≡◌};
 ghost use Rattle.dht_section.specs.Again.{IsUnanswered};
@@ -23,7 +23,8 @@ use dht_types::names::EntryKey;
 use dht_xattr::faults::faults;
 use dht_xattr::layout::Layout;
 
-/// A directory that is healed, in a volume of so many bricks, and the layout that is planned for it.
+/// A directory that is healed, in a volume of so many bricks, and the layout that is planned for
+/// it.
 #[derive(Clone, Copy)]
 pub struct Target {
     pub directory: Gfid,
@@ -31,8 +32,8 @@ pub struct Target {
     pub plan: Layout,
 }
 
-/// The home's copy of a directory: at what name it stands, and how deep, and the line on which it was
-/// shown.
+/// The home's copy of a directory: at what name it stands, and how deep, and the line on which it
+/// was shown.
 #[derive(Clone, Copy)]
 pub struct HomeCopy {
     pub place: Option<EntryKey>,
@@ -74,8 +75,8 @@ pub enum HealOne {
     /// All have. The bricks below this one have a copy, and this one had none. The directory stands
     /// at this name.
     Copying(Target, BrickNo, Survey, EntryKey),
-    /// Each brick has a copy, and those below this one have their planned range. The home showed its
-    /// own on this line.
+    /// Each brick has a copy, and those below this one have their planned range. The home showed
+    /// its own on this line.
     Laying(Target, BrickNo, u64),
     /// The lock is given back.
     Unlocking(Target, HealedOne),
@@ -152,8 +153,8 @@ fn home_shown(reply: &Reply, at: u64) -> HomeCopy
     }
 }
 
-/// Whether a brick told what it has of the directory. That it has no copy is none where the directory
-/// is the root, of which each brick has one.
+/// Whether a brick told what it has of the directory. That it has no copy is none where the
+/// directory is the root, of which each brick has one.
 fn is_told(directory: Gfid, reply: &Reply) -> bool
     ensures { result ≡ is_told directory reply.now }
 {
@@ -203,8 +204,8 @@ fn settled(target: Target, survey: Survey) -> HealOne
     }
 }
 
-/// A brick that had no copy is asked to make one, at the directory's name; without such a brick, each
-/// has a copy.
+/// A brick that had no copy is asked to make one, at the directory's name; without such a brick,
+/// each has a copy.
 fn copying(missing: Option<BrickNo>, target: Target, survey: Survey, place: EntryKey) -> HealOne
     ensures { result ≡ copying missing target survey place }
 {
@@ -214,8 +215,8 @@ fn copying(missing: Option<BrickNo>, target: Target, survey: Survey, place: Entr
     }
 }
 
-/// The bricks below this one have a copy: the next that has none is asked to make it. The root alone
-/// stands at no name, and each brick has it.
+/// The bricks below this one have a copy: the next that has none is asked to make it. The root
+/// alone stands at no name, and each brick has it.
 fn copied_from(target: Target, survey: Survey, from: u16) -> HealOne
     ensures { result ≡ copied_from target survey from }
 {
@@ -330,8 +331,8 @@ fn layout_answered(target: Target, brick: BrickNo, line: u64, reply: &Reply) -> 
 }
 
 impl HealOne {
-    /// The healing of a directory for which this layout is planned, in a volume of so many bricks. It
-    /// takes no memory.
+    /// The healing of a directory for which this layout is planned, in a volume of so many bricks.
+    /// It takes no memory.
     pub fn begin(bricks: u16, plan: Layout, directory: Gfid) -> HealOne
         ensures first { result ≡ first_heal_one bricks plan directory }
         ensures knows { (s : Scene) → MayHealOne bricks plan directory s

@@ -89,8 +89,8 @@ fn ended(prepared: Prepared, end: HealEnd) -> Restarted
 }
 
 impl Restart {
-    /// Gives back the locks of a section that is held, and heals the directory of its first name. It
-    /// takes no memory.
+    /// Gives back the locks of a section that is held, and heals the directory of its first name.
+    /// It takes no memory.
     pub fn begin(held: Held, room: HealRoom) -> Restart
         ensures first { result ≡ first_restart held room }
         ensures restarts { (s : Scene) → IsHeld held s → IsRoom room s

@@ -6,7 +6,9 @@ use Rattle.dht_types.specs.Gfid.{anchor, same_gfid}
 use Rattle.dht_types.proofs.PutLaws.{exact_gfid}
 use Rattle.dht_types.specs.declared.identifiers.Gfid.{Gfid}
 
-pub cases : {K : Type 0} (same : K → K → Bool) → Exact same → (p q : K) (v : Bool) → same p q ≡ v → (p ≡ q) ⊎ (p ≢ q)
+pub cases :
+    {K : Type 0} (same : K → K → Bool) → Exact same → (p q : K) (v : Bool) → same p q ≡ v
+    → (p ≡ q) ⊎ (p ≢ q)
 cases same exact p q true e = inl ((exact p q).0 e)
 cases same exact p q false e = inr (λ h. let k : true ≡ false = sym ((exact p q).1 h) ∙ e in cc)
 

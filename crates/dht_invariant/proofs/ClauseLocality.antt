@@ -1,4 +1,5 @@
--- Each clause of the invariant reads what is shown of one thing; so a request leaves each clause on a thing that it does not name.
+-- Each clause of the invariant reads what is shown of one thing; so
+-- a request leaves each clause on a thing that it does not name.
 use Rattle.std.proofs.Common.{◌≡◌, ◌≢◌, ◌≤◌, ℕ, arith, Bool, true, false, [], refl, sym, ap, ◌∙◌, subst}
 use Rattle.std.specs.Prelude.{Option, Some, None, is_some, nat_eq, if◌then◌else◌}
 use Rattle.dht_types.proofs.PutLaws.{put_other, exact_entry, exact_gfid}
@@ -76,11 +77,16 @@ module _ (v w : DirView) (same : SameDir v w) where
 
 -- ---- locks and slots
 
-lock_stands : (b : ℕ) (key : Key) (old new : ℕ → Option Mode) (p q : ℕ → Claim) → new ≡ old → ((c : ℕ) → Listed (p c).locks b key → Listed (q c).locks b key) → LockInvariant b key old p → LockInvariant b key new q
+lock_stands :
+    (b : ℕ) (key : Key) (old new : ℕ → Option Mode) (p q : ℕ → Claim) → new ≡ old
+    → ((c : ℕ) → Listed (p c).locks b key → Listed (q c).locks b key) → LockInvariant b key old p
+    → LockInvariant b key new q
 lock_stands b key old new p q e listed h = subst (λ (x : ℕ → Option Mode). LockInvariant b key x q) (sym e)
     (record { alone = h.alone; claimed = λ c m holds. listed c (h.claimed c m holds); low = h.low })
 
-housed_stands : (d e : Disk) (x : Entry) (b : ℕ) → SlotStays (d.brick b).store (e.brick b).store x → HousedClause d x b → HousedClause e x b
+housed_stands :
+    (d e : Disk) (x : Entry) (b : ℕ) → SlotStays (d.brick b).store (e.brick b).store x
+    → HousedClause d x b → HousedClause e x b
 housed_stands d e x b (Same slot there) h ne = there (h (λ q. ne (slot ∙ q)))
 housed_stands d e x b (Went was slot) h ne = absurd (ne slot)
 
@@ -99,13 +105,17 @@ clauses_are_local d e t u low top p q count higher = record {
 -- ---- the step of the tree is of what the request names
 
 -- a step leaves each name, file and directory that it is not of
-step_names : (step : TreeStep) (t : Tree) (x : Entry) → slot_of step ≢ x → (applied step t).names x ≡ t.names x
+step_names :
+    (step : TreeStep) (t : Tree) (x : Entry) → slot_of step ≢ x
+    → (applied step t).names x ≡ t.names x
 step_names (AddFile d n f) t x ne = put_other same_entry exact_entry t.names (d, n) (Some (IsFile f)) x (λ q. ne (sym q))
 step_names (AddDir d n g) t x ne = put_other same_entry exact_entry t.names (d, n) (Some (IsDir g)) x (λ q. ne (sym q))
 step_names (RemoveFile d n) t x ne = put_other same_entry exact_entry t.names (d, n) None x (λ q. ne (sym q))
 step_names (RemoveDir d n) t x ne = put_other same_entry exact_entry t.names (d, n) None x (λ q. ne (sym q))
 
-less_others : (dirs : Gfid → Bool) (o : Option Node) (g : Gfid) → (o ≡ Some (IsDir g) → ⊥) → less_dir dirs o g ≡ dirs g
+less_others :
+    (dirs : Gfid → Bool) (o : Option Node) (g : Gfid) → (o ≡ Some (IsDir g) → ⊥)
+    → less_dir dirs o g ≡ dirs g
 less_others dirs None g out = refl
 less_others dirs (Some (IsFile f)) g out = refl
 less_others dirs (Some (IsDir h)) g out = put_other same_gfid exact_gfid dirs h false g (λ q. out (ap (λ (x : Gfid). Some (IsDir x)) (sym q)))
@@ -121,11 +131,15 @@ stays_same : (p : Reach) (t : Tree) → TreeStays p t t
 stays_same p t = record { names = λ x ne. refl; bytes = λ f ne. refl; dirs = λ g ne out. refl; descents = λ g ne. refl }
 
 -- a step at the home, or none
-stays_home : (p : Reach) (t : Tree) (step : TreeStep) (home : Bool) → TreeStays p t (applied step t) → TreeStays p t (tree_by (if home then Some step else None) t)
+stays_home :
+    (p : Reach) (t : Tree) (step : TreeStep) (home : Bool) → TreeStays p t (applied step t)
+    → TreeStays p t (tree_by (if home then Some step else None) t)
 stays_home p t step true h = h
 stays_home p t step false h = stays_same p t
 
-tree_stays : (client : ClientNo) (call : CallNo) (b : ℕ) (q : Request) (s : Store) (t : Tree) → TreeStays (reach client call q s) t (tree_by (request_step b q) t)
+tree_stays :
+    (client : ClientNo) (call : CallNo) (b : ℕ) (q : Request) (s : Store) (t : Tree)
+    → TreeStays (reach client call q s) t (tree_by (request_step b q) t)
 tree_stays client call b (OnNames (Create d n f)) s t = record {
   names = λ x ne. step_names (AddFile d n f) t x (λ q. ne (ap Some q));
   bytes = λ g ne. put_other same_gfid exact_gfid t.bytes f (Some []) g (λ q. ne (ap Some (sym q)));
@@ -153,13 +167,17 @@ tree_stays client call b (OnNames (DropDir d n g)) s t = stays_home (reach clien
 tree_stays client call b (OnNames q) s t = stays_same (reach client call (OnNames q) s) t
 tree_stays client call b q s t = stays_same (reach client call q s) t
 
-answer_stays : (client : ClientNo) (call : CallNo) (b : ℕ) (q : Request) (r : Reply) (s : Store) (t : Tree) → TreeStays (reach client call q s) t (tree_by (step_of b q r) t)
+answer_stays :
+    (client : ClientNo) (call : CallNo) (b : ℕ) (q : Request) (r : Reply) (s : Store) (t : Tree)
+    → TreeStays (reach client call q s) t (tree_by (step_of b q r) t)
 answer_stays client call b q (Carried given) s t = tree_stays client call b q s t
 answer_stays client call b q r s t = stays_same (reach client call q s) t
 
 -- ---- the clauses on what is not named
 
-others_stand : (p : Reach) (b : ℕ) (d e : Disk) (t u : Tree) (low top : ℕ) (claims : ℕ → Claim) → ShowsTheSame p b d e → TreeStays p t u → low ≤ top → OthersStand p b d e t u low top claims
+others_stand :
+    (p : Reach) (b : ℕ) (d e : Disk) (t u : Tree) (low top : ℕ) (claims : ℕ → Claim)
+    → ShowsTheSame p b d e → TreeStays p t u → low ≤ top → OthersStand p b d e t u low top claims
 others_stand p b d e t u low top claims shown tree higher =
     let stand = clauses_are_local d e t u low top claims claims shown.count higher in
     record {
@@ -177,16 +195,21 @@ requests_leave_others client call b q d e t low top claims carried higher =
     others_stand (reach client call q s) b d e t (tree_by (request_step b q) t) low top claims (requests_are_local client call b q d e carried)
     (tree_stays client call b q s t) higher
 
--- what a request of mine reaches, what it changed on its brick, and what all bricks show of all else
+-- what a request of mine reaches, what it changed on
+-- its brick, and what all bricks show of all else
 abbrev pub reach_of : Scene → Ask → Reach
 reach_of s a = reach s.who s.mine.number a.request (s.disk.brick a.brick.0).store
 
-pub answer_changes : (s t : Scene) (a : Ask) (r : Reply) (m : Guarantee s a r t) → ChangesWithin (reach_of s a) (s.disk.brick a.brick.0) m.new
+pub answer_changes :
+    (s t : Scene) (a : Ask) (r : Reply) (m : Guarantee s a r t)
+    → ChangesWithin (reach_of s a) (s.disk.brick a.brick.0) m.new
 answer_changes s t a r m =
     let old = s.disk.brick a.brick.0 in
     served_is (ChangesWithin (reach_of s a) old) (outcome_of s a) old m.real m.new (row_within _ s.who s.mine.number a.request old) (unchanged_within (reach_of s a) old) m.served
 
-pub answer_shows : (s t : Scene) (a : Ask) (r : Reply) → Guarantee s a r t → ShowsTheSame (reach_of s a) a.brick.0 s.disk t.disk
+pub answer_shows :
+    (s t : Scene) (a : Ask) (r : Reply) → Guarantee s a r t
+    → ShowsTheSame (reach_of s a) a.brick.0 s.disk t.disk
 answer_shows s t a r m = shows_the_same (reach_of s a) a.brick.0 s.disk t.disk m.new m.disk (answer_changes s t a r m)
 
 pub answers_leave_others : AnswersLeaveOthers

@@ -22,7 +22,9 @@ pub some_is : {A : Type 0} (o : Option A) (x y : A) → o ≡ Some x → o ≡ S
 some_is o x y h k = let e : Some x ≡ Some y = sym h ∙ k in cc
 
 -- what stands at a place where something was put
-pub put_is : {A : Type 0} (f : ℕ → A) (k : ℕ) (v x : A) (m : ℕ) → put nat_eq f k v m ≡ x → ((m ≡ k) × (v ≡ x)) ⊎ ((m ≢ k) × (f m ≡ x))
+pub put_is :
+    {A : Type 0} (f : ℕ → A) (k : ℕ) (v x : A) (m : ℕ) → put nat_eq f k v m ≡ x
+    → ((m ≡ k) × (v ≡ x)) ⊎ ((m ≢ k) × (f m ≡ x))
 put_is f k v x m e = elim (nat_cases m k) [
   | inl q ↦ inl (q, sym (ap (put nat_eq f k v) q ∙ put_same nat_eq exact_nat f k v) ∙ e)
   | inr ne ↦ inr (ne, sym (put_other nat_eq exact_nat f k v m ne) ∙ e)
@@ -34,7 +36,10 @@ pub not_empty : (c : ℕ) (xs : List ℕ) → IsListed c xs → is_empty xs ≡ 
 not_empty c [] h e = h
 not_empty c (x ∷ xs) h e = let z : false ≡ true = e in cc
 
-keep_if : (c x : ℕ) (xs : List ℕ) (v : Bool) → nat_eq x c ≡ v → (w : ℕ) → w ≢ c → (x ≡ w) ⊎ IsListed w xs → (IsListed w xs → IsListed w (without c xs)) → IsListed w (if v then without c xs else x ∷ without c xs)
+keep_if :
+    (c x : ℕ) (xs : List ℕ) (v : Bool) → nat_eq x c ≡ v → (w : ℕ) → w ≢ c → (x ≡ w) ⊎ IsListed w xs
+    → (IsListed w xs → IsListed w (without c xs))
+    → IsListed w (if v then without c xs else x ∷ without c xs)
 keep_if c x xs true e w ne h more = elim h [
   | inl q ↦ absurd (ne (sym q ∙ (exact_nat x c).0 e))
   | inr l ↦ more l
@@ -48,7 +53,10 @@ listed_without : (c : ℕ) (xs : List ℕ) (w : ℕ) → w ≢ c → IsListed w 
 listed_without c [] w ne h = h
 listed_without c (x ∷ xs) w ne h = keep_if c x xs (nat_eq x c) refl w ne h (λ l. listed_without c xs w ne l)
 
-drop_if : (c x : ℕ) (xs : List ℕ) (v : Bool) → nat_eq x c ≡ v → (w : ℕ) → IsListed w (if v then without c xs else x ∷ without c xs) → (IsListed w (without c xs) → (w ≢ c) × IsListed w xs) → (w ≢ c) × ((x ≡ w) ⊎ IsListed w xs)
+drop_if :
+    (c x : ℕ) (xs : List ℕ) (v : Bool) → nat_eq x c ≡ v → (w : ℕ)
+    → IsListed w (if v then without c xs else x ∷ without c xs)
+    → (IsListed w (without c xs) → (w ≢ c) × IsListed w xs) → (w ≢ c) × ((x ≡ w) ⊎ IsListed w xs)
 drop_if c x xs true e w h more = (let m = more h in (m.0, inr m.1))
 drop_if c x xs false e w h more = elim h [
   | inl q ↦ (λ k. (let z : true ≡ false = sym ((exact_nat x c).1 (q ∙ k)) ∙ e in cc), inl q)
@@ -60,7 +68,9 @@ listed_still c [] w h = absurd h
 listed_still c (x ∷ xs) w h = drop_if c x xs (nat_eq x c) refl w h (listed_still c xs w)
 
 -- a client has a call where something was put, or had one elsewhere
-calls_put : (f g : ℕ → Option PendingCall) (c : ℕ) (new : PendingCall) (w : ℕ) → g ≡ put nat_eq f c (Some new) → (w ≢ c → is_some (f w) ≡ true) → is_some (g w) ≡ true
+calls_put :
+    (f g : ℕ → Option PendingCall) (c : ℕ) (new : PendingCall) (w : ℕ)
+    → g ≡ put nat_eq f c (Some new) → (w ≢ c → is_some (f w) ≡ true) → is_some (g w) ≡ true
 calls_put f g c new w e h = elim (nat_cases w c) [
   | inl q ↦ ap is_some (ap g q ∙ (ap (λ (k : ℕ → Option PendingCall). k c) e ∙ put_same nat_eq exact_nat f c (Some new)))
   | inr ne ↦ ap is_some (ap (λ (k : ℕ → Option PendingCall). k w) e ∙ put_other nat_eq exact_nat f c (Some new) w ne) ∙ h ne
@@ -68,7 +78,9 @@ calls_put f g c new w e h = elim (nat_cases w c) [
 
 -- ---- a call ended, by its answer or its client's death
 
-pub counted_ended : (s t : History) (c : ℕ) → CallsCounted s → t.pending ≡ put nat_eq s.pending c None → t.callers ≡ without c s.callers → t.calls ≡ s.calls → CallsCounted t
+pub counted_ended :
+    (s t : History) (c : ℕ) → CallsCounted s → t.pending ≡ put nat_eq s.pending c None
+    → t.callers ≡ without c s.callers → t.calls ≡ s.calls → CallsCounted t
 counted_ended s t c h pending callers calls =
     let was : (w : ℕ) (r : PendingCall) → t.pending w ≡ Some r → (w ≢ c) × (s.pending w ≡ Some r) =
     (λ w r e. elim (put_is s.pending c None (Some r) w (sym (ap (λ (f : ℕ → Option PendingCall). f w) pending) ∙ e)) [
@@ -86,7 +98,9 @@ counted_ended s t c h pending callers calls =
 
 -- ---- a call was accepted
 
-pub counted_called : (s : History) (c k : ℕ) (call : Call Gfid) → CallsCounted s → k ≡ s.calls + 1 → CallsCounted (with_line s (Called (record { 0 = k }) (record { 0 = c }) call))
+pub counted_called :
+    (s : History) (c k : ℕ) (call : Call Gfid) → CallsCounted s → k ≡ s.calls + 1
+    → CallsCounted (with_line s (Called (record { 0 = k }) (record { 0 = c }) call))
 counted_called s c k call h ek =
     let n : CallNo = record { 0 = k } in
     let new : PendingCall = accepted (s.called c) s.callers (s.size + 1) n call in
@@ -123,12 +137,17 @@ counted_called s c k call h ek =
 
 -- ---- a call went on
 
-went_is : (new mine r : PendingCall) → new.number ≡ mine.number → new.alone ≡ mine.alone → Some new ≡ Some r → (r.number.0 ≡ mine.number.0) × (r.alone ≡ mine.alone)
+went_is :
+    (new mine r : PendingCall) → new.number ≡ mine.number → new.alone ≡ mine.alone
+    → Some new ≡ Some r → (r.number.0 ≡ mine.number.0) × (r.alone ≡ mine.alone)
 went_is new mine r number alone e =
     let z : r ≡ new = (let y : new ≡ r = cc in sym y) in
     (ap (λ (x : PendingCall). x.number.0) z ∙ ap (λ (x : CallNo). x.0) number, ap (λ (x : PendingCall). x.alone) z ∙ alone)
 
-pub counted_went : (s t : History) (c : ℕ) (mine new : PendingCall) → CallsCounted s → s.pending c ≡ Some mine → t.pending ≡ put nat_eq s.pending c (Some new) → t.callers ≡ s.callers → t.calls ≡ s.calls → new.number ≡ mine.number → new.alone ≡ mine.alone → CallsCounted t
+pub counted_went :
+    (s t : History) (c : ℕ) (mine new : PendingCall) → CallsCounted s → s.pending c ≡ Some mine
+    → t.pending ≡ put nat_eq s.pending c (Some new) → t.callers ≡ s.callers → t.calls ≡ s.calls
+    → new.number ≡ mine.number → new.alone ≡ mine.alone → CallsCounted t
 counted_went s t c mine new h runs pending callers calls number alone =
     let cases : (w : ℕ) (r : PendingCall) → t.pending w ≡ Some r → ((w ≡ c) × (Some new ≡ Some r)) ⊎ ((w ≢ c) × (s.pending w ≡ Some r)) =
     (λ w r e. put_is s.pending c (Some new) (Some r) w (sym (ap (λ (f : ℕ → Option PendingCall). f w) pending) ∙ e)) in

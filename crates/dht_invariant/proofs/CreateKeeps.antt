@@ -1,4 +1,5 @@
--- A create that is carried out keeps the clauses: its name and its file change, and nothing else does.
+-- A create that is carried out keeps the clauses: its
+-- name and its file change, and nothing else does.
 use Rattle.std.proofs.Common.{◌≡◌, ◌≢◌, ◌<◌, ℕ, Bool, true, false, List, [], refl, sym, ap, ◌∙◌, subst, inl, inr, arith}
 use Rattle.std.specs.Prelude.{Option, Some, None, nat_eq, is_some, ◌||◌, if◌then◌else◌}
 use Rattle.dht_types.specs.Put.{same_entry}
@@ -29,7 +30,9 @@ use Rattle.dht_section.proofs.SlotLaws.{entry_cases}
 use Rattle.dht_invariant.proofs.Frames.{links_core, plain_core, dir_core, name_kept, file_kept, dir_kept, lock_kept, view_same, dir_view_same}
 
 -- where no brick has a record of it, a file is gone
-gone_of : (count : ℕ) (records : ℕ → Option Record) (h : FileShape) → RecordsAs count records h → ((i : ℕ) → i < count → records i ≡ None) → h ≡ Gone
+gone_of :
+    (count : ℕ) (records : ℕ → Option Record) (h : FileShape) → RecordsAs count records h
+    → ((i : ℕ) → i < count → records i ≡ None) → h ≡ Gone
 gone_of count records Gone r none = refl
 gone_of count records (Live b hop bytes) r none = absurd (none_some (body (records b)) _ (ap body (none b r.fits)) (r.has b r.fits ∙ here_at _ b))
 gone_of count records (Moving b hop t bytes) r none = absurd (none_some (body (records b)) _ (ap body (none b r.fits.0)) (r.has b r.fits.0 ∙ here_at _ b))
@@ -37,14 +40,18 @@ gone_of count records (Copying b hop t bytes c) r none = absurd (none_some (body
 gone_of count records (Moved t c) r none = absurd (none_some (body (records t)) _ (ap body (none t r.fits)) (r.has t r.fits ∙ here_at _ t))
 
 -- a new record is no pointer
-body_here : (b hop : ℕ) (bytes : List ℕ) (i : ℕ) → body (here (Some (stored.Live hop bytes)) b i) ≡ here (Some (stored.Live hop bytes)) b i
+body_here :
+    (b hop : ℕ) (bytes : List ℕ) (i : ℕ)
+    → body (here (Some (stored.Live hop bytes)) b i) ≡ here (Some (stored.Live hop bytes)) b i
 body_here b hop bytes i = by (nat_eq i b)
   where
     by : (v : Bool) → body (if v then Some (stored.Live hop bytes) else None) ≡ (if v then Some (stored.Live hop bytes) else None)
     by true = refl
     by false = refl
 
-no_forward : (b i n : ℕ) (x : BrickNo) {o : Option Record} → o ≡ here (Some (stored.Live 0 [])) b i → o ≡ Some (stored.Forward n x) → ⊥
+no_forward :
+    (b i n : ℕ) (x : BrickNo) {o : Option Record} → o ≡ here (Some (stored.Live 0 [])) b i
+    → o ≡ Some (stored.Forward n x) → ⊥
 no_forward b i n x {o} h k = elim (nat_cases i b) [
   | inl q ↦ (let z : Some (stored.Forward n x) ≡ Some (stored.Live 0 []) = sym k ∙ (h ∙ (ap (here (Some (stored.Live 0 [])) b) q ∙ here_at _ b)) in cc)
   | inr ne ↦ (let z : Some (stored.Forward n x) ≡ None = sym k ∙ (h ∙ here_off _ b i ne) in cc)

@@ -1,5 +1,5 @@
--- What a request leaves that makes or drops a copy of a directory, or sets its range: all things but
--- that directory and its name.
+-- What a request leaves that makes or drops a copy of a directory,
+-- or sets its range: all things but that directory and its name.
 use Rattle.std.proofs.Common.{◌≡◌, ◌≢◌, ◌<◌, ◌≤◌, ℕ, Bool, true, false, List, sym, ap, ◌∙◌, subst, inl, inr, ◌⊎◌}
 use Rattle.std.specs.Prelude.{Option, Some, None, is_some}
 use Rattle.std.specs.Option.{option_map}

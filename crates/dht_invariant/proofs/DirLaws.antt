@@ -1,4 +1,5 @@
--- What becomes of the clause on a directory where copies of directories come, go, or get other ranges.
+-- What becomes of the clause on a directory where
+-- copies of directories come, go, or get other ranges.
 use Rattle.std.proofs.Common.{◌≡◌, ◌<◌, ◌+◌, ℕ, Bool, true, refl, sym, ap, ◌∙◌, subst, arith}
 use Rattle.std.specs.Prelude.{Option, Some, None, is_some}
 use Rattle.dht_types.specs.Gfid.{Entry, home}
@@ -32,13 +33,17 @@ pub record Remains (count : ℕ) (g : Gfid) (v w : DirView) : Type 0 where
       → b < count → v.mains b (entry_at k) ≡ true → v.depths b k.dir ≡ Some n → w.depths b k.dir ≡ Some n
 
 -- the copy that was there
-was_copy : (o p : Option DirRecord) (r : DirRecord) → SameAt o p → p ≡ Some r → (q : DirRecord) × (o ≡ Some q) × SameCopy q r
+was_copy :
+    (o p : Option DirRecord) (r : DirRecord) → SameAt o p → p ≡ Some r
+    → (q : DirRecord) × (o ≡ Some q) × SameCopy q r
 was_copy None None r h e = absurd (let z : None ≡ Some r = e in cc)
 was_copy (Some q) (Some p) r h e = (let same : p ≡ r = cc in (q, refl, subst (SameCopy q) same h))
 was_copy None (Some p) r h e = absurd h
 was_copy (Some q) None r h e = absurd h
 
-is_copy : (o p : Option DirRecord) (r : DirRecord) → SameAt o p → o ≡ Some r → (q : DirRecord) × (p ≡ Some q) × SameCopy r q
+is_copy :
+    (o p : Option DirRecord) (r : DirRecord) → SameAt o p → o ≡ Some r
+    → (q : DirRecord) × (p ≡ Some q) × SameCopy r q
 is_copy None None r h e = absurd (let z : None ≡ Some r = e in cc)
 is_copy (Some q) (Some p) r h e = (let same : q ≡ r = cc in (p, refl, subst (λ x. SameCopy x p) same h))
 is_copy None (Some p) r h e = absurd h
@@ -82,7 +87,8 @@ module _ (count : ℕ) (g : Gfid) (v w : DirView) (m : Remains count g v w) wher
 
 -- ---- a directory of one name
 
--- the copies that there are stand at this name, as deep as that, and the name is the directory's where they are
+-- the copies that there are stand at this name, as deep
+-- as that, and the name is the directory's where they are
 pub record OneName (count : ℕ) (w : DirView) (k : EntryKey) (above : ℕ) : Type 0 where
   pub placed : (b : ℕ) (r : DirRecord)
       → b < count → w.copies b ≡ Some r → (r.place ≡ Some k) × (r.depth ≡ above + 1)

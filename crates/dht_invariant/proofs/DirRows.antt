@@ -33,7 +33,9 @@ pub record StoresOnly (q : NameRequest) (c new : Contents) : Type 0 where
   pub opens : new.opens ≡ c.opens
   pub locks : new.locks ≡ c.locks
 
-pub stores_only : (bricks : List (List ℕ)) (q : NameRequest) (c new : Contents) (gives : Given) → within (with_store c) (name_row bricks q c.store) ≡ Do gives new → StoresOnly q c new
+pub stores_only :
+    (bricks : List (List ℕ)) (q : NameRequest) (c new : Contents) (gives : Given)
+    → within (with_store c) (name_row bricks q c.store) ≡ Do gives new → StoresOnly q c new
 stores_only bricks q c new gives done =
     let (a, row, is) = within_done (with_store c) (name_row bricks q c.store) gives new done in
     record {
@@ -54,10 +56,16 @@ pub record CopyMade (d : Gfid) (n : List ℕ) (g : Gfid) (depth : ℕ) (value : 
   pub copy : dir new.store g ≡ Some (new_copy d n depth value)
 
 -- what it comes to, where the directory is there and the slot is free, or not
-abbrev made : Gfid → List ℕ → Gfid → ℕ → Option (List ℕ) → Contents → Option DirRecord → Bool → Outcome Contents
+abbrev made :
+    Gfid → List ℕ → Gfid → ℕ → Option (List ℕ) → Contents → Option DirRecord → Bool
+    → Outcome Contents
 made d n g depth value c o v = within (with_store c) (in_dir o (λ r. on_slot (MakeDir d n g depth value) c.store (d, n) (when v (with_main (slot c.store (d, n)) (Dir g)))))
 
-made_by : (d : Gfid) (n : List ℕ) (g : Gfid) (depth : ℕ) (value : Option (List ℕ)) (c new : Contents) (gives : Given) (o : Option DirRecord) (v : Bool) → dir c.store d ≡ o → is_free (slot c.store (d, n)) ≡ v → made d n g depth value c o v ≡ Do gives new → CopyMade d n g depth value c new
+made_by :
+    (d : Gfid) (n : List ℕ) (g : Gfid) (depth : ℕ) (value : Option (List ℕ)) (c new : Contents)
+    (gives : Given) (o : Option DirRecord) (v : Bool)
+    → dir c.store d ≡ o → is_free (slot c.store (d, n)) ≡ v
+    → made d n g depth value c o v ≡ Do gives new → CopyMade d n g depth value c new
 made_by d n g depth value c new gives None v there free done = absurd (let z : Refuse why.Nodir ≡ Do gives new = done in cc)
 made_by d n g depth value c new gives (Some x) false there free done = absurd (let z : Refuse (why.Slot (slot_shown (slot c.store (d, n)))) ≡ Do gives new = done in cc)
 made_by d n g depth value c new gives (Some x) true there free done =
@@ -70,7 +78,11 @@ made_by d n g depth value c new gives (Some x) true there free done =
       copy = ap (λ (s : Store). dir s g) is ∙ get-insert_here gfid_total c.store.dirs g (new_copy d n depth value);
     }
 
-pub copy_made : (bricks : List (List ℕ)) (d : Gfid) (n : List ℕ) (g : Gfid) (depth : ℕ) (value : Option (List ℕ)) (c new : Contents) (gives : Given) → within (with_store c) (name_row bricks (MakeDir d n g depth value) c.store) ≡ Do gives new → CopyMade d n g depth value c new
+pub copy_made :
+    (bricks : List (List ℕ)) (d : Gfid) (n : List ℕ) (g : Gfid) (depth : ℕ)
+    (value : Option (List ℕ)) (c new : Contents) (gives : Given)
+    → within (with_store c) (name_row bricks (MakeDir d n g depth value) c.store) ≡ Do gives new
+    → CopyMade d n g depth value c new
 copy_made bricks d n g depth value c new gives done = made_by d n g depth value c new gives (dir c.store d) (is_free (slot c.store (d, n))) refl refl done
 
 -- ---- a copy is dropped
@@ -92,7 +104,9 @@ gone slots g y e =
     (get-retain_keys slots (λ (x : Entry). not (same_gfid g x.0)) y (λ x t. ap (λ (z : Entry). not (same_gfid g z.0)) (sym (entry_exact y x t)))
     ∙ ap (λ b. cond (not b) (get slots y) None) ((exact_gfid g y.0).1 (sym e)))
 
-stayed : (slots : Slots) (g : Gfid) (y : Entry) → g ≢ y.0 → slot_in (slots_outside slots g) y ≡ slot_in slots y
+stayed :
+    (slots : Slots) (g : Gfid) (y : Entry) → g ≢ y.0
+    → slot_in (slots_outside slots g) y ≡ slot_in slots y
 stayed slots g y ne = by (same_gfid g y.0) refl
   where
     by : (v : Bool) → same_gfid g y.0 ≡ v → slot_in (slots_outside slots g) y ≡ slot_in slots y
@@ -102,7 +116,11 @@ stayed slots g y ne = by (same_gfid g y.0) refl
         (get-retain_keys slots (λ (x : Entry). not (same_gfid g x.0)) y (λ x t. ap (λ (z : Entry). not (same_gfid g z.0)) (sym (entry_exact y x t)))
         ∙ ap (λ b. cond (not b) (get slots y) None) e)
 
-dropped_by : (d : Gfid) (n : List ℕ) (g : Gfid) (c new : Contents) (gives : Given) (o : Option DirRecord) (full v : Bool) → dir c.store d ≡ o → is_dir g (slot c.store (d, n)).main ≡ v → dropped d n g c o full v ≡ Do gives new → CopyDropped d n g c new
+dropped_by :
+    (d : Gfid) (n : List ℕ) (g : Gfid) (c new : Contents) (gives : Given) (o : Option DirRecord)
+    (full v : Bool)
+    → dir c.store d ≡ o → is_dir g (slot c.store (d, n)).main ≡ v
+    → dropped d n g c o full v ≡ Do gives new → CopyDropped d n g c new
 dropped_by d n g c new gives None full v there is_its done = absurd (let z : Refuse why.Nodir ≡ Do gives new = done in cc)
 dropped_by d n g c new gives (Some x) true true there is_its done = absurd (let z : Refuse why.NotEmpty ≡ Do gives new = done in cc)
 dropped_by d n g c new gives (Some x) true false there is_its done = absurd (let z : Refuse (why.Slot (slot_shown (slot c.store (d, n)))) ≡ Do gives new = done in cc)
@@ -118,7 +136,10 @@ dropped_by d n g c new gives (Some x) false true there is_its done =
       copy = ap (λ (s : Store). dir s g) is ∙ get-remove_here gfid_total c.store.dirs g;
     }
 
-pub copy_dropped : (bricks : List (List ℕ)) (d : Gfid) (n : List ℕ) (g : Gfid) (c new : Contents) (gives : Given) → within (with_store c) (name_row bricks (DropDir d n g) c.store) ≡ Do gives new → CopyDropped d n g c new
+pub copy_dropped :
+    (bricks : List (List ℕ)) (d : Gfid) (n : List ℕ) (g : Gfid) (c new : Contents) (gives : Given)
+    → within (with_store c) (name_row bricks (DropDir d n g) c.store) ≡ Do gives new
+    → CopyDropped d n g c new
 copy_dropped bricks d n g c new gives done = dropped_by d n g c new gives (dir c.store d) (is_occupied c.store.slots g) (is_dir g (slot c.store (d, n)).main) refl refl done
 
 -- ---- a range is set
@@ -131,7 +152,9 @@ pub record RangeSet (d : Gfid) (value : Option (List ℕ)) (c new : Contents) : 
 abbrev set : Gfid → Option (List ℕ) → Contents → Option DirRecord → Outcome Contents
 set d value c o = within (with_store c) (in_dir o (λ r. Do given.Nothing (with_dir c.store d (record r { value = value }))))
 
-set_by : (d : Gfid) (value : Option (List ℕ)) (c new : Contents) (gives : Given) (o : Option DirRecord) → dir c.store d ≡ o → set d value c o ≡ Do gives new → RangeSet d value c new
+set_by :
+    (d : Gfid) (value : Option (List ℕ)) (c new : Contents) (gives : Given) (o : Option DirRecord)
+    → dir c.store d ≡ o → set d value c o ≡ Do gives new → RangeSet d value c new
 set_by d value c new gives None there done = absurd (let z : Refuse why.Nodir ≡ Do gives new = done in cc)
 set_by d value c new gives (Some x) there done = record {
   old = x;
@@ -139,5 +162,8 @@ set_by d value c new gives (Some x) there done = record {
   copy = ap (λ (y : Outcome Contents). dir (left_by y c).store d) (sym done) ∙ get-insert_here gfid_total c.store.dirs d (record x { value = value });
 }
 
-pub range_set : (bricks : List (List ℕ)) (d : Gfid) (value : Option (List ℕ)) (c new : Contents) (gives : Given) → within (with_store c) (name_row bricks (SetLayout d value) c.store) ≡ Do gives new → RangeSet d value c new
+pub range_set :
+    (bricks : List (List ℕ)) (d : Gfid) (value : Option (List ℕ)) (c new : Contents) (gives : Given)
+    → within (with_store c) (name_row bricks (SetLayout d value) c.store) ≡ Do gives new
+    → RangeSet d value c new
 range_set bricks d value c new gives done = set_by d value c new gives (dir c.store d) refl done

@@ -1,4 +1,5 @@
--- A copy of an empty directory that is dropped keeps the invariant: at its home, where the directory goes with it, or beside that.
+-- A copy of an empty directory that is dropped keeps the invariant:
+-- at its home, where the directory goes with it, or beside that.
 use Rattle.std.proofs.Common.{◌≡◌, ◌≢◌, ◌<◌, ◌+◌, ℕ, Bool, true, false, List, length, refl, sym, ap, ◌∙◌, subst, inl, inr, arith}
 use Rattle.std.specs.Prelude.{Option, Some, None, is_some, nat_eq, if◌then◌else◌, unwrap_or}
 use Rattle.std.specs.Option.{option_map}
@@ -47,7 +48,11 @@ use Rattle.dht_invariant.proofs.Frames.{brick_by, brick_is, kept_by}
 use Rattle.dht_invariant.proofs.ServedLaws.{others_hold}
 
 -- a directory of which there is no copy and no name
-no_dir_left : (count : ℕ) (g : Gfid) (w : DirView) (told : Bool) (descent : Option Descent) → told ≡ is_some (w.copies (home g)) → ((b : ℕ) → b < count → w.copies b ≡ None) → ((b : ℕ) (e : Entry) → b < count → w.mains b e ≡ true → ⊥) → DirInvariant count g w told descent
+no_dir_left :
+    (count : ℕ) (g : Gfid) (w : DirView) (told : Bool) (descent : Option Descent)
+    → told ≡ is_some (w.copies (home g)) → ((b : ℕ) → b < count → w.copies b ≡ None)
+    → ((b : ℕ) (e : Entry) → b < count → w.mains b e ≡ true → ⊥)
+    → DirInvariant count g w told descent
 no_dir_left count g w told descent homed none unnamed = record {
   homed = homed;
   led = λ b l h. absurd (true_false (is_some (w.copies b)) h (ap is_some (none b l)));
@@ -361,7 +366,13 @@ module _ (s t : Scene) (b : BrickNo) (d : Gfid) (n : List ℕ) (g : Gfid) (r : R
     keeps_less : Preserves s t
     keeps_less = keeps tree_stays (ap (λ (x : Tree). x.descents g) tree_same) name_less own_less
 
-pub drop_dir_keeps : (s t : Scene) (b : BrickNo) (d : Gfid) (n : List ℕ) (g : Gfid) (r : Reply) (m : Guarantee s (record { brick = b; request = OnNames (DropDir d n g) }) r t) → Sound s → b.0 < s.disk.count → Changes s b.0 (DropDir d n g) → (gives : Given) → m.real ≡ Carried gives → outcome_of s (record { brick = b; request = OnNames (DropDir d n g) }) ≡ Do gives m.new → Preserves s t
+pub drop_dir_keeps :
+    (s t : Scene) (b : BrickNo) (d : Gfid) (n : List ℕ) (g : Gfid) (r : Reply)
+    (m : Guarantee s (record { brick = b; request = OnNames (DropDir d n g) }) r t)
+    → Sound s → b.0 < s.disk.count → Changes s b.0 (DropDir d n g) → (gives : Given)
+    → m.real ≡ Carried gives
+    → outcome_of s (record { brick = b; request = OnNames (DropDir d n g) }) ≡ Do gives m.new
+    → Preserves s t
 drop_dir_keeps s t b d n g r m sound there may gives real done =
     let stood = subst (NameStands s (d, n)) may.takes.1 may.stands in
     elim may.takes.2 [

@@ -1,4 +1,5 @@
--- A drop that is carried out keeps the clauses: the live record of a sealed, nameless file goes, and nothing else changes.
+-- A drop that is carried out keeps the clauses: the live record
+-- of a sealed, nameless file goes, and nothing else changes.
 use Rattle.std.proofs.Common.{◌≡◌, ◌≢◌, ◌<◌, ℕ, true, false, List, refl, sym, ap, ◌∙◌, subst, inl, inr, length, arith}
 use Rattle.std.specs.Prelude.{Some, None}
 use Rattle.dht_types.specs.Gfid.{Entry}

@@ -44,7 +44,8 @@ plain_as p q same (inr (inr e)) = inr (inr (e.0, core_folder q e.0 (same ∙ ap 
 
 -- ---- what holds for now stays
 
--- in the same run and with the same weights, no brick has another record of a directory, or more registrations
+-- in the same run and with the same weights, no brick has
+-- another record of a directory, or more registrations
 pub record SameDirs (d e : Disk) (s t : History) : Type 0 where
   pub count : e.count ≡ d.count
   pub run : t.run ≡ s.run
@@ -60,7 +61,8 @@ module _ (d e : Disk) (s t : History) (m : SameDirs d e s t) (k : Early d s) whe
   holders_same : (x : Entry) → holder_of e x ≡ holder_of d x
   holders_same x = ap (λ ranges. holder ranges (dm x.1)) (layout_same d e x.0 m.count (λ b. ap range_of (m.dirs b x.0)))
 
-  -- it is left to show what slots and files' records became, that in the first run no slot gets a linkto, that a name that is new is on its holder, and what is used
+  -- it is left to show what slots and files' records became, that in the first run no
+  -- slot gets a linkto, that a name that is new is on its holder, and what is used
   pub early_on : ((x : Entry) (b : ℕ) → b < d.count → IsPlain (slot_at e b x)) → ((x : Entry) (b : ℕ) → s.run ≡ 1 → b < d.count → HasNone (slot_at e b x)) → ((f : Gfid) (b : ℕ) (r : Record) → b < d.count → file_at e b f ≡ Some r → IsUnmoved r) → ((x : Entry) (b : ℕ) (f : Gfid) → b < d.count → name_at e b x ≡ Some f → (name_at d b x ≡ Some f) ⊎ (holder_of d x ≡ Some b)) → ((g : Gfid) → Used e t.tree g → Used d s.tree g ⊎ (run_of g ≤ s.run)) → Early e t
   early_on plain none unmoved named used = record {
     plain = λ x b l. plain x b (within b l);

@@ -35,17 +35,21 @@ on_more on b i e = by (nat_eq i b)
 
 -- ---- shapes of a directory's name
 
-pub on_folder : (g : Gfid) (on : ℕ → Bool) (i : ℕ) → on i ≡ true → core_at (Folder g on) i ≡ folder g
+pub on_folder :
+    (g : Gfid) (on : ℕ → Bool) (i : ℕ) → on i ≡ true → core_at (Folder g on) i ≡ folder g
 on_folder g on i e = ap (λ (v : Bool). let p : Slot = record { main = when_on v (Dir g); standby = None } in p) e
 
 pub off_folder : (g : Gfid) (on : ℕ → Bool) (i : ℕ) → on i ≡ false → core_at (Folder g on) i ≡ bare
 off_folder g on i e = ap (λ (v : Bool). let p : Slot = record { main = when_on v (Dir g); standby = None } in p) e
 
-pub same_folder : (g : Gfid) (on more : ℕ → Bool) (i : ℕ) → on i ≡ more i → core_at (Folder g on) i ≡ core_at (Folder g more) i
+pub same_folder :
+    (g : Gfid) (on more : ℕ → Bool) (i : ℕ) → on i ≡ more i
+    → core_at (Folder g on) i ≡ core_at (Folder g more) i
 same_folder g on more i e = ap (λ (v : Bool). let p : Slot = record { main = when_on v (Dir g); standby = None } in p) e
 
 -- only a directory's name is one of the tree
-pub folder_shape : (h : NameShape) (g : Gfid) → node_of h ≡ Some (IsDir g) → (on : ℕ → Bool) × (h ≡ Folder g on)
+pub folder_shape :
+    (h : NameShape) (g : Gfid) → node_of h ≡ Some (IsDir g) → (on : ℕ → Bool) × (h ≡ Folder g on)
 folder_shape Bare g e = absurd (let z : None ≡ Some (IsDir g) = e in cc)
 folder_shape (Folder x on) g e = (on, (let z : x ≡ g = cc in ap (λ y. Folder y on) z))
 folder_shape (Plain b f) g e = absurd (let z : Some (IsFile f) ≡ Some (IsDir g) = e in cc)
@@ -56,17 +60,23 @@ folder_shape (Copied b f t) g e = absurd (let z : Some (IsFile f) ≡ Some (IsDi
 folder_shape (Committed t f) g e = absurd (let z : Some (IsFile f) ≡ Some (IsDir g) = e in cc)
 
 -- a shape with a brick more or less fits where it did
-pub more_fits : (count b : ℕ) (g : Gfid) (on : ℕ → Bool) → b < count → NameFits count (Folder g on) → NameFits count (Folder g (set_on on b true))
+pub more_fits :
+    (count b : ℕ) (g : Gfid) (on : ℕ → Bool) → b < count → NameFits count (Folder g on)
+    → NameFits count (Folder g (set_on on b true))
 more_fits count b g on l fit = (fit.0, on_more on b (home g) fit.1, λ i m. on_off on b true i (λ q. let z : i ≡ b = q in absurd (omega arith)) ∙ fit.2 i m)
 
-pub less_fits : (count b : ℕ) (g : Gfid) (on : ℕ → Bool) → b < count → b ≢ home g → NameFits count (Folder g on) → NameFits count (Folder g (set_on on b false))
+pub less_fits :
+    (count b : ℕ) (g : Gfid) (on : ℕ → Bool) → b < count → b ≢ home g → NameFits count (Folder g on)
+    → NameFits count (Folder g (set_on on b false))
 less_fits count b g on l ne fit = (
   fit.0,
   on_off on b false (home g) (λ z. ne (sym z)) ∙ fit.1,
   λ i m. on_off on b false i (λ z. let y : i ≡ b = z in absurd (omega arith)) ∙ fit.2 i m,
 )
 
-pub first_fits : (count b : ℕ) (g : Gfid) → b < count → b ≡ home g → NameFits count (Folder g (set_on no_brick b true))
+pub first_fits :
+    (count b : ℕ) (g : Gfid) → b < count → b ≡ home g
+    → NameFits count (Folder g (set_on no_brick b true))
 first_fits count b g l at = (
   subst (λ (i : ℕ). i < count) at l,
   subst (λ (i : ℕ). set_on no_brick b true i ≡ true) at (on_at no_brick b true),

@@ -1,4 +1,5 @@
--- What others may make of the shape of a guarded name: nothing, twice, and where what is shown stays.
+-- What others may make of the shape of a guarded name:
+-- nothing, twice, and where what is shown stays.
 use Rattle.std.proofs.Common.{◌≡◌, ℕ, Bool, true, false, refl, sym, ap, ◌∙◌, subst}
 use Rattle.std.specs.Prelude.{Option, Some, None, nat_eq, if◌then◌else◌}
 use Rattle.dht_types.specs.declared.identifiers.Gfid.{Gfid}
@@ -19,7 +20,9 @@ grows_refl (Standing x g) = refl
 grows_refl (Copied b f t) = refl
 grows_refl (Committed t f) = (false, refl)
 
-committed_on : (t : ℕ) (f : Gfid) (done : Bool) (k : NameShape) → Grows (if done then Plain t f else Committed t f) k → Grows (Committed t f) k
+committed_on :
+    (t : ℕ) (f : Gfid) (done : Bool) (k : NameShape)
+    → Grows (if done then Plain t f else Committed t f) k → Grows (Committed t f) k
 committed_on t f true k h = (true, h)
 committed_on t f false k h = h
 
@@ -38,16 +41,23 @@ grows_on (Committed t f) h k p q = committed_on t f p.0 k (subst (λ (x : NameSh
 main_of : Slot → Option Main
 main_of p = p.main
 
-between : (x y z : Bool) (g : Gfid) → (x ≡ true → y ≡ true) → (y ≡ true → z ≡ true) → when_on z (Dir g) ≡ when_on x (Dir g) → y ≡ x
+between :
+    (x y z : Bool) (g : Gfid) → (x ≡ true → y ≡ true) → (y ≡ true → z ≡ true)
+    → when_on z (Dir g) ≡ when_on x (Dir g) → y ≡ x
 between true y z g p q e = p refl
 between false false z g p q e = refl
 between false true z g p q e = absurd (let w : Some (Dir g) ≡ None = ap (λ (v : Bool). when_on v (Dir g)) (sym (q refl)) ∙ e in cc)
 
-committed_between : (t b : ℕ) (f : Gfid) (done : Bool) (k : NameShape) → Grows (if done then Plain t f else Committed t f) k → core_at k b ≡ core_at (Committed t f) b → core_at (if done then Plain t f else Committed t f) b ≡ core_at (Committed t f) b
+committed_between :
+    (t b : ℕ) (f : Gfid) (done : Bool) (k : NameShape)
+    → Grows (if done then Plain t f else Committed t f) k → core_at k b ≡ core_at (Committed t f) b
+    → core_at (if done then Plain t f else Committed t f) b ≡ core_at (Committed t f) b
 committed_between t b f false k h e = refl
 committed_between t b f true k h e = ap (λ (x : NameShape). core_at x b) (sym h) ∙ e
 
-pub grew_between : (a h k : NameShape) (b : ℕ) → Grows a h → Grows h k → core_at k b ≡ core_at a b → core_at h b ≡ core_at a b
+pub grew_between :
+    (a h k : NameShape) (b : ℕ) → Grows a h → Grows h k → core_at k b ≡ core_at a b
+    → core_at h b ≡ core_at a b
 grew_between Bare h k b p q e = ap (λ (x : NameShape). core_at x b) p
 grew_between (Folder g on) h k b p q e =
     let r = subst (λ (x : NameShape). Grows x k) p.1 q in
@@ -62,15 +72,21 @@ grew_between (Committed t f) h k b p q e = ap (λ (x : NameShape). core_at x b) 
 
 -- ---- what links to a file does not grow
 
-folder_links : (f g : Gfid) (v : Bool) → links_to f (record { main = when_on v (Dir g); standby = None }) ≡ false
+folder_links :
+    (f g : Gfid) (v : Bool)
+    → links_to f (record { main = when_on v (Dir g); standby = None }) ≡ false
 folder_links f g true = refl
 folder_links f g false = refl
 
-committed_links : (f g : Gfid) (v : Bool) → links_to f (record { main = None; standby = if v then Some (Copy g) else None }) ≡ false
+committed_links :
+    (f g : Gfid) (v : Bool)
+    → links_to f (record { main = None; standby = if v then Some (Copy g) else None }) ≡ false
 committed_links f g true = refl
 committed_links f g false = refl
 
-pub linked_stays : (f : Gfid) (h k : NameShape) (b : ℕ) → Grows h k → links_to f (core_at h b) ≡ true → core_at k b ≡ core_at h b
+pub linked_stays :
+    (f : Gfid) (h k : NameShape) (b : ℕ) → Grows h k → links_to f (core_at h b) ≡ true
+    → core_at k b ≡ core_at h b
 linked_stays f Bare k b p e = ap (λ (x : NameShape). core_at x b) p
 linked_stays f (Folder g on) k b p e = absurd (let w : true ≡ false = sym e ∙ folder_links f g (on b) in cc)
 linked_stays f (Plain c g) k b p e = ap (λ (x : NameShape). core_at x b) p

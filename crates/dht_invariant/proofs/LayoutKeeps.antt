@@ -1,4 +1,5 @@
--- A layout that is set keeps the clauses: one copy of a directory that its client holds alone gets its planned range, and nothing else changes.
+-- A layout that is set keeps the clauses: one copy of a directory that its
+-- client holds alone gets its planned range, and nothing else changes.
 use Rattle.std.proofs.Common.{◌≡◌, ◌≢◌, ◌<◌, ◌≤◌, ℕ, true, List, refl, sym, ap, ◌∙◌, subst, inl, inr, ◌⊎◌, length}
 use Rattle.std.specs.Prelude.{Option, Some, None, is_some, slice_index_or, unwrap_or}
 use Rattle.std.specs.FinMap.{contains_key}
@@ -257,7 +258,11 @@ module _ (s t : Scene) (b : BrickNo) (d : Gfid) (value : Option (List ℕ)) (r :
   layout_leaves = record { things = things; early = early; used = used_before; touches = touches }
 
 -- so it does, however it was answered
-pub layouts_keep : (s t : Scene) (b : BrickNo) (d : Gfid) (value : Option (List ℕ)) (r : Reply) → b.0 < s.disk.count → HoldsAlone s d × IsPlannedAt s b.0 d value → Guarantee s (record { brick = b; request = OnNames (SetLayout d value) }) r t → Sound s → Preserves s t
+pub layouts_keep :
+    (s t : Scene) (b : BrickNo) (d : Gfid) (value : Option (List ℕ)) (r : Reply)
+    → b.0 < s.disk.count → HoldsAlone s d × IsPlannedAt s b.0 d value
+    → Guarantee s (record { brick = b; request = OnNames (SetLayout d value) }) r t → Sound s
+    → Preserves s t
 layouts_keep s t b d value r there may m sound = elim (came b.0 (OnNames (SetLayout d value)) (outcome_of s (record { brick = b; request = OnNames (SetLayout d value) })) (s.disk.brick b.0) m.real m.new m.served) [
   | WasDone gives real done ↦ layout_leaves s t b d value r m sound there may.0 may.1 gives real done
   | WasNot step same ↦ undone_leaves s t (record { brick = b; request = OnNames (SetLayout d value) }) r m sound step same

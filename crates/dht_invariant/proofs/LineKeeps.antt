@@ -20,7 +20,10 @@ use Rattle.dht_section.proofs.EarlyLaws.{nat_cases}
 use Rattle.dht_invariant.proofs.QuietKeeps.{SameHistory, at_most, same_stores, transition_same}
 
 -- one client claims of a copy no more than before
-pub places_less : (p : ℕ → Claim) (c : ℕ) (new : Claim) → ((f : Gfid) (b : ℕ) → place_in new.copy f b ≤ place_in (p c).copy f b) → (f : Gfid) (b w : ℕ) → places_of (put nat_eq p c new) f b w ≤ places_of p f b w
+pub places_less :
+    (p : ℕ → Claim) (c : ℕ) (new : Claim)
+    → ((f : Gfid) (b : ℕ) → place_in new.copy f b ≤ place_in (p c).copy f b) → (f : Gfid) (b w : ℕ)
+    → places_of (put nat_eq p c new) f b w ≤ places_of p f b w
 places_less p c new h f b w = put_elim (λ (x : Claim). place_in x.copy f b ≤ place_in (p w).copy f b) nat_eq exact_nat p c new w
     (λ q. subst (λ (i : ℕ). place_in new.copy f b ≤ place_in (p i).copy f b) (sym q) (h f b))
     (λ ne. at_most _ _ refl)
@@ -44,7 +47,10 @@ claims_are_transitions c d s p new k now may =
     }
 
 -- one more line, of which this is known, keeps the history
-pub line_keeps : (s : History) (x : Line) → (tells s x).tree ≡ s.tree → (tells s x).weights ≡ s.weights → (tells s x).run ≡ s.run → s.calls ≤ (tells s x).calls → (CallsCounted s → CallsCounted (with_line s x)) → SameHistory s (with_line s x)
+pub line_keeps :
+    (s : History) (x : Line) → (tells s x).tree ≡ s.tree → (tells s x).weights ≡ s.weights
+    → (tells s x).run ≡ s.run → s.calls ≤ (tells s x).calls
+    → (CallsCounted s → CallsCounted (with_line s x)) → SameHistory s (with_line s x)
 line_keeps s x tree weights run calls counts = record {
   tree = tree;
   weights = weights;

@@ -68,20 +68,39 @@ IsMade (MakeLinkto d n value) = Unit {0}
 IsMade q = ⊥
 
 -- a slot that is put in the place of one of the same core
-put_core : (s : Store) (x : Entry) (p : Slot) → core p ≡ core (slot s x) → Kept s x (with_slot s x p)
+put_core :
+    (s : Store) (x : Entry) (p : Slot) → core p ≡ core (slot s x) → Kept s x (with_slot s x p)
 put_core s x p e = ap core (slot_put s.slots x p) ∙ e
 
-made_core : (d : Gfid) (n value : List ℕ) (s : Store) (o : Option DirRecord) (v : Bool) → is_vacant (slot s (d, n)).main ≡ v → Kept s (d, n) (left_by (in_dir o (λ r. on_slot (MakeLinkto d n value) s (d, n) (when v (with_main (slot s (d, n)) (Linkto value))))) s)
+made_core :
+    (d : Gfid) (n value : List ℕ) (s : Store) (o : Option DirRecord) (v : Bool)
+    → is_vacant (slot s (d, n)).main ≡ v
+    → Kept s (d, n)
+    (left_by
+    (in_dir o
+    (λ r.
+    on_slot (MakeLinkto d n value) s (d, n)
+    (when v (with_main (slot s (d, n)) (Linkto value)))))
+    s)
 made_core d n value s None v e = refl
 made_core d n value s (Some r) false e = refl
 made_core d n value s (Some r) true e = put_core s (d, n) (with_main (slot s (d, n)) (Linkto value)) (ap (λ m. let p : Slot = record { main = m; standby = (slot s (d, n)).standby } in p) (vacant_none (slot s (d, n)).main e))
 
-dropped_core : (d : Gfid) (n : List ℕ) (s : Store) (o : Option DirRecord) (v : Bool) → is_linkto (slot s (d, n)).main ≡ v → Kept s (d, n) (left_by (in_dir o (λ r. on_slot (DropLinkto d n) s (d, n) (when v (without_main (slot s (d, n)))))) s)
+dropped_core :
+    (d : Gfid) (n : List ℕ) (s : Store) (o : Option DirRecord) (v : Bool)
+    → is_linkto (slot s (d, n)).main ≡ v
+    → Kept s (d, n)
+    (left_by
+    (in_dir o
+    (λ r. on_slot (DropLinkto d n) s (d, n) (when v (without_main (slot s (d, n))))))
+    s)
 dropped_core d n s None v e = refl
 dropped_core d n s (Some r) false e = refl
 dropped_core d n s (Some r) true e = put_core s (d, n) (without_main (slot s (d, n))) (ap (λ m. let p : Slot = record { main = m; standby = (slot s (d, n)).standby } in p) (linkto_none (slot s (d, n)).main e))
 
-row_core : (bricks : List (List ℕ)) (q : NameRequest) (s : Store) → IsOfLinkto q → Kept s (name_named q) (left_by (name_row bricks q s) s)
+row_core :
+    (bricks : List (List ℕ)) (q : NameRequest) (s : Store) → IsOfLinkto q
+    → Kept s (name_named q) (left_by (name_row bricks q s) s)
 row_core bricks (MakeLinkto d n value) s h = made_core d n value s (dir s d) (is_vacant (slot s (d, n)).main) refl
 row_core bricks (DropLinkto d n) s h = dropped_core d n s (dir s d) (is_linkto (slot s (d, n)).main) refl
 row_core bricks q s h = absurd h
@@ -90,33 +109,49 @@ row_core bricks q s h = absurd h
 abbrev StaysNone : Store → Entry → Store → Type 0
 StaysNone s x n = HasNone (slot s x) → HasNone (slot n x)
 
-dropped_none : (d : Gfid) (n : List ℕ) (s : Store) (o : Option DirRecord) (v : Bool) → StaysNone s (d, n) (left_by (in_dir o (λ r. on_slot (DropLinkto d n) s (d, n) (when v (without_main (slot s (d, n)))))) s)
+dropped_none :
+    (d : Gfid) (n : List ℕ) (s : Store) (o : Option DirRecord) (v : Bool)
+    → StaysNone s (d, n)
+    (left_by
+    (in_dir o
+    (λ r. on_slot (DropLinkto d n) s (d, n) (when v (without_main (slot s (d, n))))))
+    s)
 dropped_none d n s None v h = h
 dropped_none d n s (Some r) false h = h
 dropped_none d n s (Some r) true h = subst HasNone (sym (slot_put s.slots (d, n) (without_main (slot s (d, n))))) refl
 
-row_none : (bricks : List (List ℕ)) (q : NameRequest) (s : Store) → IsOfLinkto q → (IsMade q → ⊥) → StaysNone s (name_named q) (left_by (name_row bricks q s) s)
+row_none :
+    (bricks : List (List ℕ)) (q : NameRequest) (s : Store) → IsOfLinkto q → (IsMade q → ⊥)
+    → StaysNone s (name_named q) (left_by (name_row bricks q s) s)
 row_none bricks (MakeLinkto d n value) s h dropped = absurd (dropped tt)
 row_none bricks (DropLinkto d n) s h dropped = dropped_none d n s (dir s d) (is_linkto (slot s (d, n)).main)
 row_none bricks q s h dropped = absurd h
 
 -- where the directory is not there, nothing is done
-closed : (o : Option DirRecord) (outcome : DirRecord → Outcome Store) (s : Store) → o ≡ None → left_by (in_dir o outcome) s ≡ s
+closed :
+    (o : Option DirRecord) (outcome : DirRecord → Outcome Store) (s : Store) → o ≡ None
+    → left_by (in_dir o outcome) s ≡ s
 closed None outcome s e = refl
 closed (Some r) outcome s e = absurd (let z : Some r ≡ None = e in cc)
 
-row_closed : (bricks : List (List ℕ)) (q : NameRequest) (s : Store) → IsOfLinkto q → dir s (name_named q).0 ≡ None → left_by (name_row bricks q s) s ≡ s
+row_closed :
+    (bricks : List (List ℕ)) (q : NameRequest) (s : Store) → IsOfLinkto q
+    → dir s (name_named q).0 ≡ None → left_by (name_row bricks q s) s ≡ s
 row_closed bricks (MakeLinkto d n value) s h e = closed (dir s d) _ s e
 row_closed bricks (DropLinkto d n) s h e = closed (dir s d) _ s e
 row_closed bricks q s h e = absurd h
 
 -- only the slot is another
-local_only : (o : Outcome Store) (s : Store) (x : Entry) → IsLocal (at_slot x) s o → ChangesOnly (at_slot x) s (left_by o s)
+local_only :
+    (o : Outcome Store) (s : Store) (x : Entry) → IsLocal (at_slot x) s o
+    → ChangesOnly (at_slot x) s (left_by o s)
 local_only (Do given new) s x h = h
 local_only (Refuse why) s x h = record { slots = λ e ne out. refl; dirs = λ g ne. refl; files = λ f ne. refl }
 local_only (Await holder) s x h = record { slots = λ e ne out. refl; dirs = λ g ne. refl; files = λ f ne. refl }
 
-row_only : (bricks : List (List ℕ)) (q : NameRequest) (s : Store) → IsOfLinkto q → ChangesOnly (at_slot (name_named q)) s (left_by (name_row bricks q s) s)
+row_only :
+    (bricks : List (List ℕ)) (q : NameRequest) (s : Store) → IsOfLinkto q
+    → ChangesOnly (at_slot (name_named q)) s (left_by (name_row bricks q s) s)
 row_only bricks (MakeLinkto d n value) s h = local_only (name_row bricks (MakeLinkto d n value) s) s (d, n) (names_are_local bricks (MakeLinkto d n value) s)
 row_only bricks (DropLinkto d n) s h = local_only (name_row bricks (DropLinkto d n) s) s (d, n) (names_are_local bricks (DropLinkto d n) s)
 row_only bricks q s h = absurd h
@@ -140,12 +175,16 @@ nothing_left old q x = record {
   locks = refl;
 }
 
-store_left : (o : Outcome Store) (c : Contents) → (left_by (within (with_store c) o) c).store ≡ left_by o c.store
+store_left :
+    (o : Outcome Store) (c : Contents)
+    → (left_by (within (with_store c) o) c).store ≡ left_by o c.store
 store_left (Do given new) c = refl
 store_left (Refuse why) c = refl
 store_left (Await holder) c = refl
 
-row_left : (bricks : List (List ℕ)) (q : NameRequest) (c : Contents) → IsOfLinkto q → Left c q (name_named q) (left_by (within (with_store c) (name_row bricks q c.store)) c)
+row_left :
+    (bricks : List (List ℕ)) (q : NameRequest) (c : Contents) → IsOfLinkto q
+    → Left c q (name_named q) (left_by (within (with_store c) (name_row bricks q c.store)) c)
 row_left bricks q c h =
     let e : (left_by (within (with_store c) (name_row bricks q c.store)) c).store ≡ left_by (name_row bricks q c.store) c.store = store_left (name_row bricks q c.store) c in
     record {

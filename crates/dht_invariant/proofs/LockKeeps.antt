@@ -98,11 +98,18 @@ module _ (b : ℕ) (key : Key) (holds : ℕ → Option Mode) (claims : ℕ → C
 abbrev pub AllKept : ℕ → (ℕ → Claim) → Contents → Type 0
 AllKept b claims c = (key : Key) → LockInvariant b key (c.locks key) claims
 
-same_locks : (b : ℕ) (claims : ℕ → Claim) (c e : Contents) → e.locks ≡ c.locks → AllKept b claims c → AllKept b claims e
+same_locks :
+    (b : ℕ) (claims : ℕ → Claim) (c e : Contents) → e.locks ≡ c.locks → AllKept b claims c
+    → AllKept b claims e
 same_locks b claims c e h k key = subst (λ (l : Locks). LockInvariant b key (l key) claims) (sym h) (k key)
 
 -- a hold of one key changes
-key_keeps : (b : ℕ) (claims : ℕ → Claim) (c : Contents) (client : ℕ) (at : Key) (v : Option Mode) → AllKept b claims c → client < 65536 → ((m : Mode) → v ≡ Some m → Listed (claims client).locks b at) → ((x : ℕ) (m n : Mode) → x ≢ client → c.locks at x ≡ Some m → v ≡ Some n → excludes m n ≡ false) → AllKept b claims (with_locks c (held c.locks at client v))
+key_keeps :
+    (b : ℕ) (claims : ℕ → Claim) (c : Contents) (client : ℕ) (at : Key) (v : Option Mode)
+    → AllKept b claims c → client < 65536
+    → ((m : Mode) → v ≡ Some m → Listed (claims client).locks b at)
+    → ((x : ℕ) (m n : Mode) → x ≢ client → c.locks at x ≡ Some m → v ≡ Some n → excludes m n ≡ false)
+    → AllKept b claims (with_locks c (held c.locks at client v))
 key_keeps b claims c client at v k low listed apart key =
     put_elim (λ (h : ℕ → Option Mode). LockInvariant b key h claims) same_key exact_key c.locks at (put nat_eq (c.locks at) client v) key
     (λ q. subst (λ (j : Key). LockInvariant b j (put nat_eq (c.locks at) client v) claims) (sym q) (held_keeps b at (c.locks at) claims client v (k at) low listed apart))
@@ -113,18 +120,27 @@ out_false : (v w : Bool) → v ≡ false → (not v && w) ≡ false → w ≡ fa
 out_false false w e h = h
 out_false true w e h = absurd (let z : true ≡ false = e in cc)
 
-granted_apart : (b : ℕ) (claims : ℕ → Claim) (c : Contents) (client : ClientNo) (at : Key) (mode : Mode) → AllKept b claims c → awaited c.locks client at mode ≡ None → (x : ℕ) (m n : Mode) → x ≢ client.0 → c.locks at x ≡ Some m → Some mode ≡ Some n → excludes m n ≡ false
+granted_apart :
+    (b : ℕ) (claims : ℕ → Claim) (c : Contents) (client : ClientNo) (at : Key) (mode : Mode)
+    → AllKept b claims c → awaited c.locks client at mode ≡ None → (x : ℕ) (m n : Mode)
+    → x ≢ client.0 → c.locks at x ≡ Some m → Some mode ≡ Some n → excludes m n ≡ false
 granted_apart b claims c client at mode k none x m n ne h e =
     let out = none_below (keeps_out (c.locks at) client.0 mode) 65536 none x ((k at).low x m h) in
     let w = out_false (nat_eq x client.0) (hold_excludes (c.locks at x) mode) (not_true (nat_eq x client.0) (λ q. ne ((exact_nat x client.0).0 q))) out in
     let same : mode ≡ n = cc in
     ap (excludes m) (sym same) ∙ (ap (λ o. hold_excludes o mode) (sym h) ∙ w)
 
-asked_keeps : (b : ℕ) (claims : ℕ → Claim) (c : Contents) (new : Locks) (o : Option ℕ) → AllKept b claims c → (o ≡ None → AllKept b claims (with_locks c new)) → AllKept b claims (left_by (within (with_locks c) (unless_awaited o (Do given.Nothing new))) c)
+asked_keeps :
+    (b : ℕ) (claims : ℕ → Claim) (c : Contents) (new : Locks) (o : Option ℕ) → AllKept b claims c
+    → (o ≡ None → AllKept b claims (with_locks c new))
+    → AllKept b claims (left_by (within (with_locks c) (unless_awaited o (Do given.Nothing new))) c)
 asked_keeps b claims c new None k h = h refl
 asked_keeps b claims c new (Some holder) k h = k
 
-row_keeps : (bricks : List (List ℕ)) (s : Scene) (b : ℕ) (q : Request) (c : Contents) → May s b q → s.who.0 < 65536 → AllKept b s.claims c → AllKept b s.claims (left_by (row bricks s.who s.mine.number q c) c)
+row_keeps :
+    (bricks : List (List ℕ)) (s : Scene) (b : ℕ) (q : Request) (c : Contents) → May s b q
+    → s.who.0 < 65536 → AllKept b s.claims c
+    → AllKept b s.claims (left_by (row bricks s.who s.mine.number q c) c)
 row_keeps bricks s b (Lock key mode) c may low k =
     asked_keeps b s.claims c (held c.locks key s.who.0 (Some mode)) (awaited c.locks s.who key mode) k
     (λ none. key_keeps b s.claims c s.who.0 key (Some mode) k low
@@ -136,7 +152,10 @@ row_keeps bricks s b (OnFile q) c may low k = same_locks b s.claims c (left_by (
 row_keeps bricks s b (Seal f) c may low k = same_locks b s.claims c (left_by (row bricks s.who s.mine.number (Seal f) c) c) (within_keeps (λ (x : Contents). x.locks) (with_opens c) (seal_row f c.opens) c (λ a. refl)) k
 row_keeps bricks s b q c may low k = absurd may
 
-pub locks_moved : (s t : Scene) (a : Ask) (r : Reply) → Guarantee s a r t → Permitted s a → s.who.0 < 65536 → ((b : ℕ) (key : Key) → b < s.disk.count → LockInvariant b key (holders s.disk b key) s.claims) → (b : ℕ) (key : Key) → b < t.disk.count → LockInvariant b key (holders t.disk b key) t.claims
+pub locks_moved :
+    (s t : Scene) (a : Ask) (r : Reply) → Guarantee s a r t → Permitted s a → s.who.0 < 65536
+    → ((b : ℕ) (key : Key) → b < s.disk.count → LockInvariant b key (holders s.disk b key) s.claims)
+    → (b : ℕ) (key : Key) → b < t.disk.count → LockInvariant b key (holders t.disk b key) t.claims
 locks_moved s t a r m p low k b key l =
     subst (λ (x : ℕ → Claim). LockInvariant b key (holders t.disk b key) x) (sym m.claims)
     (brick_by (λ c. LockInvariant b key (c.locks key) s.claims) s.disk t.disk a.brick.0 m.new b m.disk

@@ -53,7 +53,8 @@ root_record v = record { place = None; depth = 0; value = v }
 pub root_first : (v : Option (List ℕ)) → dir (newborn v).store root ≡ Some (root_record v)
 root_first v = get_at gfid_total empty root (root_record v)
 
-pub root_only : (v : Option (List ℕ)) (g : Gfid) → is_some (dir (newborn v).store g) ≡ same_gfid g root
+pub root_only :
+    (v : Option (List ℕ)) (g : Gfid) → is_some (dir (newborn v).store g) ≡ same_gfid g root
 root_only v g = elim (gfid_cases g root) [
   | inl e ↦ ap is_some (ap (dir (newborn v).store) e ∙ root_first v) ∙ sym ((exact_gfid g root).1 e)
   | inr ne ↦ ap is_some (get_off gfid_total gfid_exact empty root (root_record v) g ne ∙ get-empty gfid_cmp g) ∙ sym (is_not g ne)

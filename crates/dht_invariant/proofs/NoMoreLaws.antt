@@ -1,4 +1,5 @@
--- What stays where bricks store what they stored, or less: slots are bare, or files' records are gone.
+-- What stays where bricks store what they stored, or
+-- less: slots are bare, or files' records are gone.
 use Rattle.std.proofs.Common.{◌≡◌, ◌≢◌, ◌<◌, ℕ, true, false, refl, sym, ap, ◌∙◌, subst, inl, inr, ◌⊎◌}
 use Rattle.std.specs.Prelude.{Some, None, is_some}
 use Rattle.std.specs.FinMap.{contains_key}
@@ -97,14 +98,23 @@ module _ (d e : Disk) (m : StoresNoMore d e) where
   }
 
 -- the same files are sealed where all registrations and seals are as they were
-pub sealed_kept : (d e : Disk) (g : Gfid) → e.count ≡ d.count → ((i : ℕ) → (e.brick i).opens ≡ (d.brick i).opens) → (view_of e g).sealed ≡ (view_of d g).sealed
+pub sealed_kept :
+    (d e : Disk) (g : Gfid) → e.count ≡ d.count → ((i : ℕ) → (e.brick i).opens ≡ (d.brick i).opens)
+    → (view_of e g).sealed ≡ (view_of d g).sealed
 sealed_kept d e g count opens = ap (λ (i : ℕ). is_sealed (e.brick i).opens g) (ap (anchor g) count) ∙ ap (λ (o : Opens). is_sealed o g) (opens (anchor g d.count))
 
-pub opened_kept : (d e : Disk) (g : Gfid) → e.count ≡ d.count → ((i : ℕ) → registrations (e.brick i).opens g ≡ registrations (d.brick i).opens g) → (view_of e g).opened ≡ (view_of d g).opened
+pub opened_kept :
+    (d e : Disk) (g : Gfid) → e.count ≡ d.count
+    → ((i : ℕ) → registrations (e.brick i).opens g ≡ registrations (d.brick i).opens g)
+    → (view_of e g).opened ≡ (view_of d g).opened
 opened_kept d e g count opens = ap (λ (i : ℕ). registrations (e.brick i).opens g) (ap (anchor g) count) ∙ opens (anchor g d.count)
 
 -- what is used as a file's stays so where its bytes, records and seal do
-pub file_used_kept : (d e : Disk) (t u : Tree) (f : Gfid) → e.count ≡ d.count → u.bytes f ≡ t.bytes f → ((b : ℕ) → file_at e b f ≡ file_at d b f) → ((view_of d f).sealed ≡ true → (view_of e f).sealed ≡ true) → IsFileUsed d t f → IsFileUsed e u f
+pub file_used_kept :
+    (d e : Disk) (t u : Tree) (f : Gfid) → e.count ≡ d.count → u.bytes f ≡ t.bytes f
+    → ((b : ℕ) → file_at e b f ≡ file_at d b f)
+    → ((view_of d f).sealed ≡ true → (view_of e f).sealed ≡ true) → IsFileUsed d t f
+    → IsFileUsed e u f
 file_used_kept d e t u f count bytes files sealed (ByBytes h) = ByBytes (λ none. h (sym bytes ∙ none))
 file_used_kept d e t u f count bytes files sealed (ByRecord b r l h) = ByRecord b r (subst (λ (n : ℕ). b < n) (sym count) l) (files b ∙ h)
 file_used_kept d e t u f count bytes files sealed (BySeal h) = BySeal (sealed h)
@@ -158,7 +168,9 @@ module _ (o : Scene) (e : Disk) (u : Tree) (m : TakesGuarded o e u) where
   }
 
 -- where no slot and no directory changes, none is named
-pub no_dir_named : (p : Reach) (b : ℕ) (d e : Disk) → p.stored.dir ≡ None → p.stored.slot ≡ None → p.turned ≡ None → (g : Gfid) → NamesDir p b d e g → ⊥
+pub no_dir_named :
+    (p : Reach) (b : ℕ) (d e : Disk) → p.stored.dir ≡ None → p.stored.slot ≡ None → p.turned ≡ None
+    → (g : Gfid) → NamesDir p b d e g → ⊥
 no_dir_named p b d e dir slot turned g (ByDirRecord k) = none_some p.stored.dir g dir k
 no_dir_named p b d e dir slot turned g (ByDirName x k z) = none_some p.stored.slot x slot k
 no_dir_named p b d e dir slot turned g (ByParent r k there place z) = none_some p.turned k.dir turned z

@@ -1,4 +1,5 @@
--- Where all ranges of a directory are planned, the holder of a name stays as planned ranges are added.
+-- Where all ranges of a directory are planned, the
+-- holder of a name stays as planned ranges are added.
 use Rattle.std.proofs.Common.{◌≡◌, ◌≢◌, ◌<◌, ◌^◌, ℕ, false, true, List, length, refl, sym, ap, ◌∙◌, inl, inr, ◌⊎◌, arith}
 use Rattle.std.specs.Prelude.{Option, Some, None, slice_index_or}
 use Rattle.std.proofs.lemmas.Bool.{false_from_ne_true}

@@ -1,4 +1,5 @@
--- What stays where bricks store what they stored: only locks, registrations, claims or lines of the history change.
+-- What stays where bricks store what they stored: only locks,
+-- registrations, claims or lines of the history change.
 use Rattle.std.proofs.Common.{◌≡◌, ◌≢◌, ◌<◌, ◌≤◌, ℕ, false, refl, sym, ap, ◌∙◌, subst, inl, length, arith}
 use Rattle.std.specs.Prelude.{Some, is_some, Any}
 use Rattle.std.specs.FinMap.{contains_key}
@@ -44,7 +45,9 @@ pub at_most : (m n : ℕ) → m ≡ n → m ≤ n
 at_most m n e = omega arith
 
 -- so it is where all is the same but locks
-pub same_opens : (d e : Disk) → e.count ≡ d.count → ((b : ℕ) → (e.brick b).store ≡ (d.brick b).store) → ((b : ℕ) → (e.brick b).opens ≡ (d.brick b).opens) → SameStores d e
+pub same_opens :
+    (d e : Disk) → e.count ≡ d.count → ((b : ℕ) → (e.brick b).store ≡ (d.brick b).store)
+    → ((b : ℕ) → (e.brick b).opens ≡ (d.brick b).opens) → SameStores d e
 same_opens d e count stores opens = record {
   count = count;
   stores = stores;

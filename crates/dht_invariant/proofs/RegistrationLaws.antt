@@ -19,7 +19,9 @@ use Rattle.dht_brick.specs.OpenRows.{registrations}
 use Rattle.dht_brick.specs.declared.opens.Registration.{Registration}
 
 -- the entries whose keys pass a test
-pub entries_kept : {K X : Type 0} {R : K → K → Ordering} → IsTotalOrder R → IsAntisymmetric R → (m : FinMap R X) (p : K → Bool) → entries (retain_keys m p) ≡ filter (λ e. p e.0) (entries m)
+pub entries_kept :
+    {K X : Type 0} {R : K → K → Ordering} → IsTotalOrder R → IsAntisymmetric R
+    → (m : FinMap R X) (p : K → Bool) → entries (retain_keys m p) ≡ filter (λ e. p e.0) (entries m)
 entries_kept {K} {X} {R} o exact m p =
     ap entries (same_map o exact (retain_keys m p) (from_sorted (where_key R p (entries m))) (λ q. get-retain_keys m p q (alike q) ∙ sym (get-from_sorted R (where_key R p (entries m)) q sorted ∙ (find-where_key R p q (alike q) (entries m) ∙ ap (λ x. cond (p q) x None) (sym (get-entries m q))))))
     ∙ entries-from_sorted R (where_key R p (entries m)) sorted
@@ -49,7 +51,11 @@ registration_exact a b h =
     ∙ ap (λ n. made b.file.0 b.client.0 n) (exact_unsigned a.call.0 b.call.0 inner.1)
 
 -- fewer are counted where fewer are kept
-filtered_less : (p : Registration → Bool) (q : Registration × Unit {0} → Bool) (es : List (Registration × Unit {0})) → count_by p (map (λ (e : Registration × Unit {0}). e.0) (filter q es)) ≤ count_by p (map (λ (e : Registration × Unit {0}). e.0) es)
+filtered_less :
+    (p : Registration → Bool) (q : Registration × Unit {0} → Bool)
+    (es : List (Registration × Unit {0}))
+    → count_by p (map (λ (e : Registration × Unit {0}). e.0) (filter q es))
+    ≤ count_by p (map (λ (e : Registration × Unit {0}). e.0) es)
 filtered_less p q es =
     let g : Registration × Unit {0} → ℕ = λ e. if p e.0 then 1 else 0 in
     let both : sum_by g (filter q es) + sum_by g (filter (λ e. not (q e)) es) ≡ sum_by g es = sum_by-filter_both q (λ e. not (q e)) (λ e. refl) g es in
@@ -57,12 +63,15 @@ filtered_less p q es =
     let all : count_by p (map (λ (e : Registration × Unit {0}). e.0) es) ≡ sum_by g es = count_by-map p (λ (e : Registration × Unit {0}). e.0) es in
     omega arith
 
-pub registrations_less : (c : ℕ) (o : Opens) (f : Gfid) → registrations (opens_without c o) f ≤ registrations o f
+pub registrations_less :
+    (c : ℕ) (o : Opens) (f : Gfid) → registrations (opens_without c o) f ≤ registrations o f
 unfolding registrations
 registrations_less c o f = subst (λ es. count_by (λ (r : Registration). same_gfid f r.file) (map (λ (e : Registration × Unit {0}). e.0) es) ≤ registrations o f) (sym (entries_kept registration_total registration_exact o.registered (λ r. not (nat_eq c r.client.0)))) (filtered_less (λ r. same_gfid f r.file) (λ e. not (nat_eq c e.0.client.0)) (entries o.registered))
 
 -- what is not registered is not registered then
-pub unregistered_less : (c : ℕ) (o : Opens) (r : Registration) → contains_key o.registered r ≡ false → contains_key (opens_without c o).registered r ≡ false
+pub unregistered_less :
+    (c : ℕ) (o : Opens) (r : Registration) → contains_key o.registered r ≡ false
+    → contains_key (opens_without c o).registered r ≡ false
 unregistered_less c o r h = ap is_some (get-retain_keys o.registered (λ x. not (nat_eq c x.client.0)) r (λ x t. ap (λ (y : Registration). not (nat_eq c y.client.0)) (sym (registration_exact r x t)))) ∙ kept (not (nat_eq c r.client.0))
   where
     kept : (v : Bool) → is_some (cond v (get o.registered r) None) ≡ false

@@ -1,4 +1,5 @@
--- A remount keeps the invariant, and what holds beside it for now; and so does one that was broken off.
+-- A remount keeps the invariant, and what holds beside
+-- it for now; and so does one that was broken off.
 use Rattle.std.proofs.Common.{◌≡◌, ◌≢◌, ◌<◌, ◌≤◌, ℕ, true, false, refl, sym, ap, ◌∙◌, subst, cond, inl, inr, length, arith}
 use Rattle.std.specs.Prelude.{Option, Some, None, List, is_some, not, unwrap_or, slice_index_or, ◌⊎◌, ◌+◌}
 use Rattle.std.specs.Option.{option_map}
@@ -270,11 +271,15 @@ module _ (d e : Disk) (s : History) (p : ℕ → Claim) (m : Anew d e) (k : Inva
 -- ---- what a brick that was mounted anew has
 
 -- a file that was not moved has no pointer
-kept_record : (o : Option Record) → ((r : Record) → o ≡ Some r → IsUnmoved r) → cond (not (is_forward o)) o None ≡ o
+kept_record :
+    (o : Option Record) → ((r : Record) → o ≡ Some r → IsUnmoved r)
+    → cond (not (is_forward o)) o None ≡ o
 kept_record None h = refl
 kept_record (Some r) h = subst (λ (x : Record). cond (not (is_forward (Some x))) (Some x) None ≡ Some x) (sym (h r refl).1) refl
 
-file_remounted : (c : Contents) (f : Gfid) → ((r : Record) → file c.store f ≡ Some r → IsUnmoved r) → file (remounted c).store f ≡ file c.store f
+file_remounted :
+    (c : Contents) (f : Gfid) → ((r : Record) → file c.store f ≡ Some r → IsUnmoved r)
+    → file (remounted c).store f ≡ file c.store f
 file_remounted c f h =
     get-retain_keys c.store.files (λ g. not (is_forward (get c.store.files g))) f (λ g tie. ap (λ (x : Gfid). not (is_forward (get c.store.files x))) (sym (gfid_exact f g tie)))
     ∙ kept_record (file c.store f) h

@@ -1,4 +1,5 @@
--- A request that takes a name away, seals a file or drops its record keeps the clauses, however it was answered.
+-- A request that takes a name away, seals a file or drops
+-- its record keeps the clauses, however it was answered.
 use Rattle.std.proofs.Common.{◌<◌}
 use Rattle.dht_types.specs.declared.identifiers.BrickNo.{BrickNo}
 use Rattle.dht_brick.specs.declared.replies.Reply.{Reply}
@@ -16,7 +17,10 @@ use Rattle.dht_invariant.proofs.ServedLaws.{WasDone, WasNot, came}
 use Rattle.dht_invariant.proofs.UndoneKeeps.{undone_leaves}
 use Rattle.dht_invariant.proofs.UnlinkKeeps.{unlink_leaves}
 
-by_request : (s t : Scene) (b : BrickNo) (q : Request) (r : Reply) → IsRemoval q → b.0 < s.disk.count → May s b.0 q → (m : Guarantee s (record { brick = b; request = q }) r t) → Sound s → Preserves s t
+by_request :
+    (s t : Scene) (b : BrickNo) (q : Request) (r : Reply) → IsRemoval q → b.0 < s.disk.count
+    → May s b.0 q → (m : Guarantee s (record { brick = b; request = q }) r t) → Sound s
+    → Preserves s t
 by_request s t b (OnNames (Unlink d n f)) r is there may m sound = elim (came b.0 (OnNames (Unlink d n f)) (outcome_of s (record { brick = b; request = OnNames (Unlink d n f) })) (s.disk.brick b.0) m.real m.new m.served) [
   | WasDone given real done ↦ unlink_leaves s t b d n f r m sound there may.1 given real done
   | WasNot step same ↦ undone_leaves s t (record { brick = b; request = OnNames (Unlink d n f) }) r m sound step same

@@ -64,7 +64,8 @@ use Rattle.dht_invariant.proofs.TouchLaws.{OneSlot, one_slot_touches}
 
 -- ---- the step of a request that was permitted can be done
 
-name_wants : (s : Scene) (b : ℕ) (q : NameRequest) → IsBuilt q → MayName s b q → WantsAll s (name_step b q)
+name_wants :
+    (s : Scene) (b : ℕ) (q : NameRequest) → IsBuilt q → MayName s b q → WantsAll s (name_step b q)
 name_wants s b (Look d n) built may = tt
 name_wants s b (Dirinfo d) built may = tt
 name_wants s b (SetLayout d value) built may = tt
@@ -84,21 +85,28 @@ reply_wants : (s : Scene) (b : ℕ) (q : Request) (r : Reply) → May s b q → 
 reply_wants s b q (Carried given) may = request_wants s b q may
 reply_wants s b q r may = tt
 
-tree_wanted : (s : Scene) (step : Option TreeStep) → IsTree s.history.tree → WantsAll s step → IsTree (tree_by step s.history.tree)
+tree_wanted :
+    (s : Scene) (step : Option TreeStep) → IsTree s.history.tree → WantsAll s step
+    → IsTree (tree_by step s.history.tree)
 tree_wanted s None k w = k
 tree_wanted s (Some step) k w = fits_keeps_tree s.history.tree step k w.fits
 
 -- ---- of whom the pending calls are
 
-mine_is : (s t : Scene) (c : ℕ) (r : PendingCall) → OnlyMine s t → t.history.pending c ≡ Some r → c ≡ s.who.0 → r ≡ t.mine
+mine_is :
+    (s t : Scene) (c : ℕ) (r : PendingCall) → OnlyMine s t → t.history.pending c ≡ Some r
+    → c ≡ s.who.0 → r ≡ t.mine
 mine_is s t c r h e q =
     let z : Some r ≡ Some t.mine = sym e ∙ (ap t.history.pending q ∙ (ap (λ (f : ℕ → Option PendingCall). f s.who.0) h.pending ∙ put_same nat_eq exact_nat s.history.pending s.who.0 (Some t.mine))) in
     cc
 
-other_is : (s t : Scene) (c : ℕ) (r : PendingCall) → OnlyMine s t → t.history.pending c ≡ Some r → c ≢ s.who.0 → s.history.pending c ≡ Some r
+other_is :
+    (s t : Scene) (c : ℕ) (r : PendingCall) → OnlyMine s t → t.history.pending c ≡ Some r
+    → c ≢ s.who.0 → s.history.pending c ≡ Some r
 other_is s t c r h e ne = sym (ap (λ (f : ℕ → Option PendingCall). f c) h.pending ∙ put_other nat_eq exact_nat s.history.pending s.who.0 (Some t.mine) c ne) ∙ e
 
-pub claims_less : (p q : ℕ → Claim) → q ≡ p → (f : Gfid) (b w : ℕ) → places_of q f b w ≤ places_of p f b w
+pub claims_less :
+    (p q : ℕ → Claim) → q ≡ p → (f : Gfid) (b w : ℕ) → places_of q f b w ≤ places_of p f b w
 claims_less p q e f b w = at_most (places_of q f b w) (places_of p f b w) (ap (λ (x : ℕ → Claim). places_of x f b w) e)
 
 module _ (s t : Scene) (a : Ask) (r : Reply) (m : Guarantee s a r t) (sound : Sound s) (p : Permitted s a) (h : OnlyMine s t) where

@@ -1,4 +1,5 @@
--- What a permitted request that was served did to its brick: nothing but with locks; it made a file; or it is one that takes something away, or is of a linkto or of a directory.
+-- What a permitted request that was served did to its brick: nothing but with locks; it
+-- made a file; or it is one that takes something away, or is of a linkto or of a directory.
 use Rattle.std.proofs.Common.{◌≡◌, ℕ, Bool, true, false, List, refl, sym, ap}
 use Rattle.std.specs.Prelude.{Option, Some, None, is_some, is_none, ◌&&◌}
 use Rattle.dht_types.specs.declared.identifiers.Gfid.{Gfid}
@@ -41,11 +42,15 @@ IsQuietRequest (OnNames q) = IsQuietName q
 IsQuietRequest q = ⊥
 
 -- what only shows something of a directory leaves the store
-shown_keeps : (o : Option DirRecord) (given : DirRecord → Given) (c : Contents) → (left_by (within (with_store c) (in_dir o (λ r. Do (given r) c.store))) c).store ≡ c.store
+shown_keeps :
+    (o : Option DirRecord) (given : DirRecord → Given) (c : Contents)
+    → (left_by (within (with_store c) (in_dir o (λ r. Do (given r) c.store))) c).store ≡ c.store
 shown_keeps None given c = refl
 shown_keeps (Some r) given c = refl
 
-after_store : (bricks : List (List ℕ)) (client : ClientNo) (call : CallNo) (q : Request) (c : Contents) → IsQuietRequest q → (after bricks client call q c).store ≡ c.store
+after_store :
+    (bricks : List (List ℕ)) (client : ClientNo) (call : CallNo) (q : Request) (c : Contents)
+    → IsQuietRequest q → (after bricks client call q c).store ≡ c.store
 after_store bricks client call (Lock key mode) c h = within_keeps (λ (x : Contents). x.store) (with_locks c) (lock_row client key mode c.locks) c (λ l. refl)
 after_store bricks client call (Unlock key) c h = refl
 after_store bricks client call (OnNames (Look d n)) c h = shown_keeps (dir c.store d) _ c
@@ -83,13 +88,19 @@ pub record Adds (b : ℕ) (q : Request) (r : Reply) (c new : Contents) : Type 0 
   pub locks : new.locks ≡ c.locks
 
 -- a request that changes no name leaves who has a file open
-after_opens : (bricks : List (List ℕ)) (client : ClientNo) (call : CallNo) (q : Request) (c : Contents) → IsQuietRequest q → (after bricks client call q c).opens ≡ c.opens
+after_opens :
+    (bricks : List (List ℕ)) (client : ClientNo) (call : CallNo) (q : Request) (c : Contents)
+    → IsQuietRequest q → (after bricks client call q c).opens ≡ c.opens
 after_opens bricks client call (Lock key mode) c h = within_keeps (λ (x : Contents). x.opens) (with_locks c) (lock_row client key mode c.locks) c (λ l. refl)
 after_opens bricks client call (Unlock key) c h = refl
 after_opens bricks client call (OnNames q) c h = within_keeps (λ (x : Contents). x.opens) (with_store c) (name_row bricks q c.store) c (λ a. refl)
 after_opens bricks client call q c h = absurd h
 
-effect_quiet : (bricks : List (List ℕ)) (s : Scene) (at : ℕ) (q : Request) (c : Contents) (r : Reply) (new : Contents) → IsQuietRequest q → ServesOrFails (row bricks s.who s.mine.number q c) c r new → Quiet at q r c new
+effect_quiet :
+    (bricks : List (List ℕ)) (s : Scene) (at : ℕ) (q : Request) (c : Contents) (r : Reply)
+    (new : Contents)
+    → IsQuietRequest q → ServesOrFails (row bricks s.who s.mine.number q c) c r new
+    → Quiet at q r c new
 effect_quiet bricks s at q c r new h v = record {
   step = no_step at q r h;
   store = served_keeps (λ (x : Contents). x.store) (row bricks s.who s.mine.number q c) c r new (after_store bricks s.who s.mine.number q c h) v;
@@ -105,7 +116,11 @@ is_done (Await holder) = false
 abbrev created : Gfid → List ℕ → Gfid → Contents → Option DirRecord → Bool → Outcome Contents
 created d n f c o b = within (with_store c) (in_dir o (λ x. on_slot (Create d n f) c.store (d, n) (when b (new_slot c.store (d, n) f))))
 
-created_by : (at : ℕ) (d : Gfid) (n : List ℕ) (f : Gfid) (c : Contents) (given : Given) (new : Contents) (o : Option DirRecord) (b : Bool) → dir c.store d ≡ o → created d n f c o b ≡ Do given new → Adds at (OnNames (Create d n f)) (Carried given) c new
+created_by :
+    (at : ℕ) (d : Gfid) (n : List ℕ) (f : Gfid) (c : Contents) (given : Given) (new : Contents)
+    (o : Option DirRecord) (b : Bool)
+    → dir c.store d ≡ o → created d n f c o b ≡ Do given new
+    → Adds at (OnNames (Create d n f)) (Carried given) c new
 unfolding is_done
 created_by at d n f c given new None b e v = absurd (let z : false ≡ true = ap is_done v in cc)
 created_by at d n f c given new (Some x) false e v = absurd (let z : false ≡ true = ap is_done v in cc)
@@ -121,10 +136,13 @@ created_by at d n f c given new (Some x) true e v = record {
   locks = ap (λ (y : Outcome Contents). (left_by y c).locks) (sym v);
 }
 
-unchanged : (at : ℕ) (q : Request) (r : Reply) (c new : Contents) → step_of at q r ≡ None → new ≡ c → Quiet at q r c new
+unchanged :
+    (at : ℕ) (q : Request) (r : Reply) (c new : Contents) → step_of at q r ≡ None → new ≡ c
+    → Quiet at q r c new
 unchanged at q r c new step e = record { step = step; store = ap (λ (x : Contents). x.store) e; opens = ap (λ (x : Contents). x.opens) e }
 
--- what a request that was permitted and served did: nothing but with locks; it made a file; or it is one that takes something away, or is of a linkto or of a directory
+-- what a request that was permitted and served did: nothing but with locks; it made a
+-- file; or it is one that takes something away, or is of a linkto or of a directory
 pub data Effect (at : ℕ) (q : Request) (r : Reply) (c new : Contents) : Type 0 where
   IsQuiet : Quiet at q r c new → Effect at q r c new
   IsCreate : Adds at q r c new → Effect at q r c new
@@ -132,7 +150,11 @@ pub data Effect (at : ℕ) (q : Request) (r : Reply) (c new : Contents) : Type 0
   TurnsLinkto : (n : NameRequest) → IsOfLinkto n → q ≡ OnNames n → Effect at q r c new
   TurnsDir : IsOfDir q → Effect at q r c new
 
-effect_create : (at : ℕ) (d : Gfid) (n : List ℕ) (f : Gfid) (c : Contents) (r : Reply) (new : Contents) (o : Option DirRecord) (b : Bool) → dir c.store d ≡ o → ServesOrFails (created d n f c o b) c r new → Effect at (OnNames (Create d n f)) r c new
+effect_create :
+    (at : ℕ) (d : Gfid) (n : List ℕ) (f : Gfid) (c : Contents) (r : Reply) (new : Contents)
+    (o : Option DirRecord) (b : Bool)
+    → dir c.store d ≡ o → ServesOrFails (created d n f c o b) c r new
+    → Effect at (OnNames (Create d n f)) r c new
 effect_create at d n f c (Carried given) new o b e v = IsCreate (created_by at d n f c given new o b e v)
 effect_create at d n f c (Declined why) new o b e v = IsQuiet (unchanged at _ _ c new refl v.1)
 effect_create at d n f c (Wait holder) new o b e v = IsQuiet (unchanged at _ _ c new refl v.1)
@@ -140,7 +162,10 @@ effect_create at d n f c Down new o b e v = IsQuiet (unchanged at _ _ c new refl
 effect_create at d n f c Failed new o b e v = IsQuiet (unchanged at _ _ c new refl v)
 effect_create at d n f c NoMemory new o b e v = IsQuiet (unchanged at _ _ c new refl v)
 
-pub effect : (bricks : List (List ℕ)) (s : Scene) (b : ℕ) (q : Request) (c : Contents) (r : Reply) (new : Contents) → May s b q → ServesOrFails (row bricks s.who s.mine.number q c) c r new → Effect b q r c new
+pub effect :
+    (bricks : List (List ℕ)) (s : Scene) (b : ℕ) (q : Request) (c : Contents) (r : Reply)
+    (new : Contents)
+    → May s b q → ServesOrFails (row bricks s.who s.mine.number q c) c r new → Effect b q r c new
 effect bricks s b (Lock key mode) c r new may v = IsQuiet (effect_quiet bricks s b (Lock key mode) c r new tt v)
 effect bricks s b (Unlock key) c r new may v = IsQuiet (effect_quiet bricks s b (Unlock key) c r new tt v)
 effect bricks s b (OnNames (Look d n)) c r new may v = IsQuiet (effect_quiet bricks s b (OnNames (Look d n)) c r new tt v)

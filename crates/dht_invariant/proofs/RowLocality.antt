@@ -56,20 +56,28 @@ Leaves P (Do given new) = P new
 Leaves P (Refuse why) = Unit {0}
 Leaves P (Await holder) = Unit {0}
 
-leaves_within : {A : Type 0} (P : Contents → Type 0) (whole : A → Contents) (o : Outcome A) → Leaves (λ a. P (whole a)) o → Leaves P (within whole o)
+leaves_within :
+    {A : Type 0} (P : Contents → Type 0) (whole : A → Contents) (o : Outcome A)
+    → Leaves (λ a. P (whole a)) o → Leaves P (within whole o)
 leaves_within P whole (Do given new) h = h
 leaves_within P whole (Refuse why) h = tt
 leaves_within P whole (Await holder) h = tt
 
-leaves_unless : {A : Type 0} (P : A → Type 0) (v : Bool) (why : Why) (o : Outcome A) → Leaves P o → Leaves P (unless v why o)
+leaves_unless :
+    {A : Type 0} (P : A → Type 0) (v : Bool) (why : Why) (o : Outcome A) → Leaves P o
+    → Leaves P (unless v why o)
 leaves_unless P true why o h = tt
 leaves_unless P false why o h = h
 
-leaves_if : {A : Type 0} (P : A → Type 0) (v : Bool) (why : Why) (o : Outcome A) → Leaves P o → Leaves P (if v then o else Refuse why)
+leaves_if :
+    {A : Type 0} (P : A → Type 0) (v : Bool) (why : Why) (o : Outcome A) → Leaves P o
+    → Leaves P (if v then o else Refuse why)
 leaves_if P true why o h = h
 leaves_if P false why o h = tt
 
-leaves_asked : (P : Locks → Type 0) (holder : Option ℕ) (o : Outcome Locks) → Leaves P o → Leaves P (unless_awaited holder o)
+leaves_asked :
+    (P : Locks → Type 0) (holder : Option ℕ) (o : Outcome Locks) → Leaves P o
+    → Leaves P (unless_awaited holder o)
 leaves_asked P None o h = h
 leaves_asked P (Some holder) o h = tt
 
@@ -82,14 +90,18 @@ record Rest (p : Places) (turned : Option Gfid) (old new : Store) : Type 0 where
   depths : (g : Gfid) → turned ≢ Some g → depth_in new g ≡ depth_in old g
 
 -- where no directory's record changes
-plain_rest : (p : Places) (old new : Store) → p.dir ≡ None → p.dropped ≡ None → ChangesOnly p old new → Rest p None old new
+plain_rest :
+    (p : Places) (old new : Store) → p.dir ≡ None → p.dropped ≡ None → ChangesOnly p old new
+    → Rest p None old new
 plain_rest p old new dir dropped h = record {
   only = h;
   slots = λ e ne. Same (ap (λ o. unwrap_or o bare) (h.slots e ne (λ k. none_some p.dropped e.0 dropped k))) (λ l. ap is_some (h.dirs e.0 (λ k. none_some p.dir e.0 dir k)) ∙ l);
   depths = λ g ne. ap (option_map (λ (r : DirRecord). r.depth)) (h.dirs g (λ k. none_some p.dir g dir k));
 }
 
-plain_leaves : (p : Places) (s : Store) (o : Outcome Store) → p.dir ≡ None → p.dropped ≡ None → IsLocal p s o → Leaves (Rest p None s) o
+plain_leaves :
+    (p : Places) (s : Store) (o : Outcome Store) → p.dir ≡ None → p.dropped ≡ None → IsLocal p s o
+    → Leaves (Rest p None s) o
 plain_leaves p s (Do given new) dir dropped h = plain_rest p s new dir dropped h
 plain_leaves p s (Refuse why) dir dropped h = tt
 plain_leaves p s (Await holder) dir dropped h = tt
@@ -102,13 +114,18 @@ same_rest p turned s = record {
 }
 
 -- a directory of a depth is there
-depth_there : (old new : Store) (g : Gfid) → depth_in new g ≡ depth_in old g → is_some (dir old g) ≡ true → is_some (dir new g) ≡ true
+depth_there :
+    (old new : Store) (g : Gfid) → depth_in new g ≡ depth_in old g → is_some (dir old g) ≡ true
+    → is_some (dir new g) ≡ true
 depth_there old new g e l =
     sym (is_some-option_map (λ (r : DirRecord). r.depth) (dir new g))
     ∙ (ap is_some e ∙ (is_some-option_map (λ (r : DirRecord). r.depth) (dir old g) ∙ l))
 
 -- another value leaves the depth
-set_rest : (d : Gfid) (value : Option (List ℕ)) (s : Store) (o : Option DirRecord) → dir s d ≡ o → IsLocal (name_places (SetLayout d value)) s (in_dir o (λ r. Do given.Nothing (with_dir s d (record r { value = value }))))
+set_rest :
+    (d : Gfid) (value : Option (List ℕ)) (s : Store) (o : Option DirRecord) → dir s d ≡ o
+    → IsLocal (name_places (SetLayout d value)) s
+    (in_dir o (λ r. Do given.Nothing (with_dir s d (record r { value = value }))))
     → Leaves (Rest (name_places (SetLayout d value)) None s) (in_dir o (λ r. Do given.Nothing (with_dir s d (record r { value = value }))))
 set_rest d value s None e only = tt
 set_rest d value s (Some r) e only = record {
@@ -213,59 +230,86 @@ module _ (d : Gfid) (n : List ℕ) (g : Gfid) (s : Store) where
 
 -- ---- the rows of names and of files
 
-names_rest : (bricks : List (List ℕ)) (q : NameRequest) (s : Store) → Leaves (Rest (name_places q) (name_turns q) s) (name_row bricks q s)
+names_rest :
+    (bricks : List (List ℕ)) (q : NameRequest) (s : Store)
+    → Leaves (Rest (name_places q) (name_turns q) s) (name_row bricks q s)
 names_rest bricks (SetLayout d value) s = set_rest d value s (dir s d) refl (names_are_local bricks (SetLayout d value) s)
 names_rest bricks (MakeDir d n g depth value) s = made_rest d n g depth value s (dir s d) (slot_row bricks s (MakeDir d n g depth value) (slot s (d, n))) (names_are_local bricks (MakeDir d n g depth value) s)
 names_rest bricks (DropDir d n g) s = dropped_rest d n g s (dir s d) (is_occupied s.slots g) (slot_row bricks s (DropDir d n g) (slot s (d, n))) refl (names_are_local bricks (DropDir d n g) s)
 names_rest bricks q s = plain_leaves (name_places q) s (name_row bricks q s) refl refl (names_are_local bricks q s)
 
-files_rest : (bricks : List (List ℕ)) (q : FileRequest) (s : Store) → Leaves (Rest (file_places q (file s (file_of q))) None s) (file_row bricks q s)
+files_rest :
+    (bricks : List (List ℕ)) (q : FileRequest) (s : Store)
+    → Leaves (Rest (file_places q (file s (file_of q))) None s) (file_row bricks q s)
 files_rest bricks q s = plain_leaves (file_places q (file s (file_of q))) s (file_row bricks q s) refl refl (files_are_local bricks q s)
 
 -- ---- contents
 
-store_changed : (p : Reach) (c : Contents) (s : Store) → Rest p.stored p.turned c.store s → ChangesWithin p c (with_store c s)
+store_changed :
+    (p : Reach) (c : Contents) (s : Store) → Rest p.stored p.turned c.store s
+    → ChangesWithin p c (with_store c s)
 store_changed p c s h = record { store = h.only; slots = h.slots; depths = h.depths; locks = λ key w ne. refl; registrations = λ r ne. refl; seals = λ f ne. refl }
 
-store_leaves : (p : Reach) (c : Contents) (o : Outcome Store) → Leaves (Rest p.stored p.turned c.store) o → Leaves (ChangesWithin p c) (within (with_store c) o)
+store_leaves :
+    (p : Reach) (c : Contents) (o : Outcome Store) → Leaves (Rest p.stored p.turned c.store) o
+    → Leaves (ChangesWithin p c) (within (with_store c) o)
 store_leaves p c (Do given new) h = store_changed p c new h
 store_leaves p c (Refuse why) h = tt
 store_leaves p c (Await holder) h = tt
 
 -- one client's hold of one lock
-held_elsewhere : (locks : Locks) (key : Key) (client : ℕ) (v : Option Mode) (k : Key) (w : ℕ) → ALock key client ≢ ALock k w → held locks key client v k w ≡ locks k w
+held_elsewhere :
+    (locks : Locks) (key : Key) (client : ℕ) (v : Option Mode) (k : Key) (w : ℕ)
+    → ALock key client ≢ ALock k w → held locks key client v k w ≡ locks k w
 held_elsewhere locks key client v k w ne =
     put_elim (λ (h : ℕ → Option Mode). h w ≡ locks k w) same_key exact_key locks key (put nat_eq (locks key) client v) k
     (λ q. put_other nat_eq exact_nat (locks key) client v w (λ r. ne (λ i. ALock (sym q i) (sym r i))) ∙ ap (λ (j : Key). locks j w) (sym q))
     (λ apart. refl)
 
-lock_changed : (p : Reach) (c : Contents) (key : Key) (client : ℕ) (v : Option Mode) → p.hold ≡ ALock key client → ChangesWithin p c (with_locks c (held c.locks key client v))
+lock_changed :
+    (p : Reach) (c : Contents) (key : Key) (client : ℕ) (v : Option Mode)
+    → p.hold ≡ ALock key client → ChangesWithin p c (with_locks c (held c.locks key client v))
 lock_changed p c key client v e =
     let same = same_rest p.stored p.turned c.store in
     record { store = same.only; slots = same.slots; depths = same.depths; locks = λ k w ne. held_elsewhere c.locks key client v k w (λ z. ne (e ∙ z)); registrations = λ r ne. refl; seals = λ f ne. refl }
 
-remove_by : {K X : Type 0} {R : K → K → Ordering} → IsAntisymmetric R → (m : FinMap R X) (k q : K) (v : Bool) → eq_by_cmp R q k ≡ v → q ≢ k → cond v None (get m q) ≡ get m q
+remove_by :
+    {K X : Type 0} {R : K → K → Ordering} → IsAntisymmetric R
+    → (m : FinMap R X) (k q : K) (v : Bool) → eq_by_cmp R q k ≡ v → q ≢ k
+    → cond v None (get m q) ≡ get m q
 remove_by {R = R} exact m k q true e ne = absurd (ne (exact q k (is_equal (R q k) e)))
 remove_by exact m k q false e ne = refl
 
 -- who has a file open, and which are sealed
-opens_changed : (p : Reach) (c : Contents) (o : Opens) → ((r : Registration) → p.hold ≢ ARegistration r → get o.registered r ≡ get c.opens.registered r) → ((f : Gfid) → p.hold ≢ ASeal f → get o.sealed f ≡ get c.opens.sealed f) → ChangesWithin p c (with_opens c o)
+opens_changed :
+    (p : Reach) (c : Contents) (o : Opens)
+    → ((r : Registration) → p.hold ≢ ARegistration r → get o.registered r ≡ get c.opens.registered r)
+    → ((f : Gfid) → p.hold ≢ ASeal f → get o.sealed f ≡ get c.opens.sealed f)
+    → ChangesWithin p c (with_opens c o)
 opens_changed p c o registrations seals =
     let same = same_rest p.stored p.turned c.store in
     record { store = same.only; slots = same.slots; depths = same.depths; locks = λ key w ne. refl; registrations = registrations; seals = seals }
 
-registered_changed : (p : Reach) (c : Contents) (r : Registration) → p.hold ≡ ARegistration r → ChangesWithin p c (with_opens c (registered c.opens r))
+registered_changed :
+    (p : Reach) (c : Contents) (r : Registration) → p.hold ≡ ARegistration r
+    → ChangesWithin p c (with_opens c (registered c.opens r))
 registered_changed p c r e = opens_changed p c (registered c.opens r) (λ x ne. get_off registration_total registration_exact c.opens.registered r tt x (λ q. ne (e ∙ ap ARegistration (sym q)))) (λ f ne. refl)
 
-unregistered_changed : (p : Reach) (c : Contents) (r : Registration) → p.hold ≡ ARegistration r → ChangesWithin p c (with_opens c (unregistered c.opens r))
+unregistered_changed :
+    (p : Reach) (c : Contents) (r : Registration) → p.hold ≡ ARegistration r
+    → ChangesWithin p c (with_opens c (unregistered c.opens r))
 unregistered_changed p c r e = opens_changed p c (unregistered c.opens r) (λ x ne. get-remove registration_total c.opens.registered r x ∙ remove_by registration_exact c.opens.registered r x _ refl (λ q. ne (e ∙ ap ARegistration (sym q)))) (λ f ne. refl)
 
-sealed_changed : (p : Reach) (c : Contents) (f : Gfid) → p.hold ≡ ASeal f → ChangesWithin p c (with_opens c (sealed c.opens f))
+sealed_changed :
+    (p : Reach) (c : Contents) (f : Gfid) → p.hold ≡ ASeal f
+    → ChangesWithin p c (with_opens c (sealed c.opens f))
 sealed_changed p c f e = opens_changed p c (sealed c.opens f) (λ r ne. refl) (λ g ne. get_off gfid_total gfid_exact c.opens.sealed f tt g (λ q. ne (e ∙ ap ASeal (sym q))))
 
 -- ---- all rows
 
-row_leaves : (bricks : List (List ℕ)) (client : ClientNo) (call : CallNo) (q : Request) (c : Contents) → Leaves (ChangesWithin (reach client call q c.store) c) (row bricks client call q c)
+row_leaves :
+    (bricks : List (List ℕ)) (client : ClientNo) (call : CallNo) (q : Request) (c : Contents)
+    → Leaves (ChangesWithin (reach client call q c.store) c) (row bricks client call q c)
 row_leaves bricks client call (Lock key mode) c =
     let p = reach client call (Lock key mode) c.store in
     leaves_within (ChangesWithin p c) (with_locks c) (lock_row client key mode c.locks)
@@ -293,10 +337,14 @@ unchanged_within p c =
     let same = same_rest p.stored p.turned c.store in
     record { store = same.only; slots = same.slots; depths = same.depths; locks = λ key w ne. refl; registrations = λ r ne. refl; seals = λ f ne. refl }
 
-left_within : (p : Reach) (c : Contents) (o : Outcome Contents) → Leaves (ChangesWithin p c) o → ChangesWithin p c (left_by o c)
+left_within :
+    (p : Reach) (c : Contents) (o : Outcome Contents) → Leaves (ChangesWithin p c) o
+    → ChangesWithin p c (left_by o c)
 left_within p c (Do given new) h = h
 left_within p c (Refuse why) h = unchanged_within p c
 left_within p c (Await holder) h = unchanged_within p c
 
-pub row_within : (bricks : List (List ℕ)) (client : ClientNo) (call : CallNo) (q : Request) (c : Contents) → ChangesWithin (reach client call q c.store) c (left_by (row bricks client call q c) c)
+pub row_within :
+    (bricks : List (List ℕ)) (client : ClientNo) (call : CallNo) (q : Request) (c : Contents)
+    → ChangesWithin (reach client call q c.store) c (left_by (row bricks client call q c) c)
 row_within bricks client call q c = left_within (reach client call q c.store) c (row bricks client call q c) (row_leaves bricks client call q c)

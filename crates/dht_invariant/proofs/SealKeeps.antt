@@ -1,4 +1,5 @@
--- A seal that is carried out keeps the clauses: its nameless file is sealed, and nothing else changes.
+-- A seal that is carried out keeps the clauses: its
+-- nameless file is sealed, and nothing else changes.
 use Rattle.std.proofs.Common.{◌≡◌, ◌≢◌, ℕ, Bool, true, false, refl, sym, ap, ◌∙◌, subst, inl, inr}
 use Rattle.std.specs.Prelude.{Some, None, is_some, ◌==◌, if◌then◌else◌}
 use Rattle.dht_types.proofs.PutLaws.{exact_nat}
@@ -45,7 +46,14 @@ record Leaves (f : Gfid) (c new : Contents) : Type 0 where
   store : new.store ≡ c.store
   opens : new.opens ≡ sealed c.opens f
 
-left : (f : Gfid) (c new : Contents) (gives : Given) (v : Bool) → (registrations c.opens f == 0) ≡ v → within (with_opens c) (if v then Do given.Nothing (sealed c.opens f) else Refuse (why.Open (registrations c.opens f))) ≡ Do gives new → Leaves f c new
+left :
+    (f : Gfid) (c new : Contents) (gives : Given) (v : Bool) → (registrations c.opens f == 0) ≡ v
+    → within (with_opens c)
+    (if v
+    then Do given.Nothing (sealed c.opens f)
+    else Refuse (why.Open (registrations c.opens f)))
+    ≡ Do gives new
+    → Leaves f c new
 left f c new gives true e done = record {
   closed = (exact_nat (registrations c.opens f) 0).0 e;
   store = ap (λ (y : Outcome Contents). (left_by y c).store) (sym done);

@@ -8,7 +8,9 @@ use Rattle.dht_section.specs.Shapes.{FileShape, Gone, Live, Moving, Copying, Mov
 use Rattle.dht_section.proofs.EarlyLaws.{nat_cases, here_at, here_off}
 
 -- what is live has a hop and bytes
-pub live_is : (o : Option Record) → is_live o ≡ true → (hop : ℕ) × (bytes : List ℕ) × (o ≡ Some (stored.Live hop bytes))
+pub live_is :
+    (o : Option Record) → is_live o ≡ true
+    → (hop : ℕ) × (bytes : List ℕ) × (o ≡ Some (stored.Live hop bytes))
 live_is (Some (stored.Live hop bytes)) h = (hop, bytes, refl)
 live_is (Some (stored.Moving hop t bytes)) h = absurd (let z : false ≡ true = h in cc)
 live_is (Some (stored.Standby c)) h = absurd (let z : false ≡ true = h in cc)
@@ -27,7 +29,9 @@ either_is None p r h = inr h
 either_is (Some x) p r h = inl h
 
 -- a file that is live on a brick is in the shape of that
-pub live_shape : (h : FileShape) (b hop : ℕ) (bytes : List ℕ) → record_at h b ≡ Some (stored.Live hop bytes) → (k : ℕ) × (x : List ℕ) × (h ≡ Live b k x)
+pub live_shape :
+    (h : FileShape) (b hop : ℕ) (bytes : List ℕ) → record_at h b ≡ Some (stored.Live hop bytes)
+    → (k : ℕ) × (x : List ℕ) × (h ≡ Live b k x)
 live_shape Gone b hop bytes e = absurd (let z : None ≡ Some (stored.Live hop bytes) = e in cc)
 live_shape (Live c k x) b hop bytes e = (k, x, ap (λ (j : ℕ). Live j k x) (sym (here_is (stored.Live k x) c b (stored.Live hop bytes) e).0))
 live_shape (Moving c k t x) b hop bytes e = absurd (let z : stored.Moving k t x ≡ stored.Live hop bytes = (here_is (stored.Moving k t x) c b (stored.Live hop bytes) e).1 in cc)

@@ -33,7 +33,10 @@ use Rattle.dht_invariant.proofs.Frames.{links_core}
 -- ---- truths
 
 -- the truth is the same where bricks show the same
-truth_same : {A : Type 0} (count : ℕ) (p q : ℕ → Option A) (v w : ℕ → Option A) (o : Option A) → ((b : ℕ) → b < count → v b ≡ p b) → ((b : ℕ) → b < count → w b ≡ q b) → TruthIs count p q o → TruthIs count v w o
+truth_same :
+    {A : Type 0} (count : ℕ) (p q : ℕ → Option A) (v w : ℕ → Option A) (o : Option A)
+    → ((b : ℕ) → b < count → v b ≡ p b) → ((b : ℕ) → b < count → w b ≡ q b) → TruthIs count p q o
+    → TruthIs count v w o
 truth_same {A} count p q v w None same alike h = (λ b l. same b l ∙ h.0 b l, λ b l. alike b l ∙ h.1 b l)
 truth_same {A} count p q v w (Some x) same alike h = elim h [
   | inl a ↦ inl (all_same p v same a)
@@ -44,7 +47,9 @@ truth_same {A} count p q v w (Some x) same alike h = elim h [
     all_same f g e a = record { brick = a.brick; there = a.there; shows = e a.brick a.there ∙ a.shows; same = λ b y l k. a.same b y l (sym (e b l) ∙ k) }
 
 -- what stands on one brick alone is all that is shown
-shows_here : {A B : Type 0} (count b : ℕ) (g : Option A → Option B) (x : A) (y : B) → b < count → g None ≡ None → g (Some x) ≡ Some y → AllShow count (λ i. g (here (Some x) b i)) y
+shows_here :
+    {A B : Type 0} (count b : ℕ) (g : Option A → Option B) (x : A) (y : B) → b < count
+    → g None ≡ None → g (Some x) ≡ Some y → AllShow count (λ i. g (here (Some x) b i)) y
 shows_here count b g x y l none some = record {
   brick = b;
   there = l;
@@ -56,7 +61,9 @@ shows_here count b g x y l none some = record {
 }
 
 -- what shows nothing of what stands there shows nothing anywhere
-hides_here : {A B : Type 0} (b : ℕ) (g : Option A → Option B) (x : A) → g None ≡ None → g (Some x) ≡ None → (i : ℕ) → g (here (Some x) b i) ≡ None
+hides_here :
+    {A B : Type 0} (b : ℕ) (g : Option A → Option B) (x : A) → g None ≡ None → g (Some x) ≡ None
+    → (i : ℕ) → g (here (Some x) b i) ≡ None
 hides_here b g x none some i = elim (nat_cases i b) [
   | inl e ↦ ap (λ (j : ℕ). g (here (Some x) b j)) e ∙ (ap g (here_at (Some x) b) ∙ some)
   | inr ne ↦ ap g (here_off (Some x) b i ne) ∙ none
@@ -64,12 +71,16 @@ hides_here b g x none some i = elim (nat_cases i b) [
 
 -- ---- names
 
-folder_shows : (g : Gfid) (v : Bool) (y : Meaning) → main_shows (when_on v (Dir g)) ≡ Some y → y ≡ ADirectory g
+folder_shows :
+    (g : Gfid) (v : Bool) (y : Meaning) → main_shows (when_on v (Dir g)) ≡ Some y → y ≡ ADirectory g
 folder_shows g true y h = (let z : Some (ADirectory g) ≡ Some y = h in cc)
 folder_shows g false y h = absurd (let z : None ≡ Some y = h in cc)
 
 -- the truth of a name in each shape
-shape_truth : (count : ℕ) (h : NameShape) → NameFits count h → TruthIs count (λ i. main_shows (main_at h i)) (λ i. standby_shows (standby_at h i)) (meaning_of (node_of h))
+shape_truth :
+    (count : ℕ) (h : NameShape) → NameFits count h
+    → TruthIs count (λ i. main_shows (main_at h i)) (λ i. standby_shows (standby_at h i))
+    (meaning_of (node_of h))
 shape_truth count Bare fits = (λ i l. refl, λ i l. refl)
 shape_truth count (Folder g on) fits = inl (record {
   brick = home g;
@@ -91,7 +102,9 @@ shows_visible (Some (Dir g)) = refl
 shows_visible (Some (File f over)) = refl
 shows_visible (Some (Linkto value)) = refl
 
-name_truth : (d : Disk) (x : Entry) (told : Option Node) → NameInvariant d.count (cores_of d x) told → NameTruth d x told
+name_truth :
+    (d : Disk) (x : Entry) (told : Option Node) → NameInvariant d.count (cores_of d x) told
+    → NameTruth d x told
 name_truth d x told n = subst (NameTruth d x) (sym n.1.node)
     (truth_same d.count (λ i. main_shows (main_at n.0 i)) (λ i. standby_shows (standby_at n.0 i)) (λ b. main_shows (slot_at d b x).main) (λ b. standby_shows (slot_at d b x).standby) (meaning_of (node_of n.0))
     (λ b l. shows_visible (slot_at d b x).main ∙ ap (λ (s : Slot). main_shows s.main) (n.1.has b l))
@@ -101,14 +114,20 @@ name_truth d x told n = subst (NameTruth d x) (sym n.1.node)
 -- ---- files
 
 -- the truth of a file's bytes in each shape of its records
-copying_record : (b hop : ℕ) (t : BrickNo) (bytes : List ℕ) (c : StandbyRecord) → t.0 ≢ b → (i : ℕ) → main_bytes (record_at (Copying b hop t bytes c) i) ≡ main_bytes (here (Some (stored.Moving hop t bytes)) b i)
+copying_record :
+    (b hop : ℕ) (t : BrickNo) (bytes : List ℕ) (c : StandbyRecord) → t.0 ≢ b → (i : ℕ)
+    → main_bytes (record_at (Copying b hop t bytes c) i)
+    ≡ main_bytes (here (Some (stored.Moving hop t bytes)) b i)
 copying_record b hop t bytes c apart i = by (here (Some (stored.Moving hop t bytes)) b i) refl
   where
     by : (o : Option Record) → here (Some (stored.Moving hop t bytes)) b i ≡ o → main_bytes (either o (here (Some (stored.Standby c)) t.0 i)) ≡ main_bytes o
     by None e = hides_here t.0 main_bytes (stored.Standby c) refl refl i
     by (Some r) e = refl
 
-shape_bytes : (count : ℕ) (h : FileShape) → FileFits count h → TruthIs count (λ i. main_bytes (record_at h i)) (λ i. standby_bytes (record_at h i)) (bytes_shown h)
+shape_bytes :
+    (count : ℕ) (h : FileShape) → FileFits count h
+    → TruthIs count (λ i. main_bytes (record_at h i)) (λ i. standby_bytes (record_at h i))
+    (bytes_shown h)
 shape_bytes count Gone fits = (λ i l. refl, λ i l. refl)
 shape_bytes count (Live b hop bytes) fits = inl (shows_here count b main_bytes (stored.Live hop bytes) bytes fits refl refl)
 shape_bytes count (Moving b hop t bytes) fits = inl (shows_here count b main_bytes (stored.Moving hop t bytes) bytes fits.0 refl refl)
@@ -132,22 +151,28 @@ standby_body (Some (stored.Moving hop t bytes)) = refl
 standby_body (Some (stored.Standby c)) = refl
 standby_body (Some (stored.Forward hop brick)) = refl
 
-bytes_truth : (d : Disk) (f : Gfid) (h : FileShape) → RecordsAs d.count (view_of d f).records h → FileTruth d f (bytes_shown h)
+bytes_truth :
+    (d : Disk) (f : Gfid) (h : FileShape) → RecordsAs d.count (view_of d f).records h
+    → FileTruth d f (bytes_shown h)
 bytes_truth d f h r = truth_same d.count (λ i. main_bytes (record_at h i)) (λ i. standby_bytes (record_at h i)) (λ b. main_bytes (file_at d b f)) (λ b. standby_bytes (file_at d b f)) (bytes_shown h)
     (λ b l. main_body (file_at d b f) ∙ ap main_bytes (r.has b l)) (λ b l. standby_body (file_at d b f) ∙ ap standby_bytes (r.has b l)) (shape_bytes d.count h r.fits)
 
 -- a name that the tree has is the file's on some brick, or readied for it, or its copy's
-links_main : (f g : Gfid) (over : Option BrickNo) (p : Slot) → p.main ≡ Some (File g over) → g ≡ f → links_to f p ≡ true
+links_main :
+    (f g : Gfid) (over : Option BrickNo) (p : Slot) → p.main ≡ Some (File g over) → g ≡ f
+    → links_to f p ≡ true
 links_main f g over p e same = ap (λ (m : Option Main). is_file f m || is_standlink f p.standby) e ∙ ap (λ (v : Bool). v || is_standlink f p.standby) ((exact_gfid f g).1 (sym same))
 
 or_true : (v : Bool) → (v || true) ≡ true
 or_true true = refl
 or_true false = refl
 
-links_standby : (f g : Gfid) (p : Slot) → p.standby ≡ Some (StandLink g) → g ≡ f → links_to f p ≡ true
+links_standby :
+    (f g : Gfid) (p : Slot) → p.standby ≡ Some (StandLink g) → g ≡ f → links_to f p ≡ true
 links_standby f g p e same = ap (λ (m : Option Standby). is_file f p.main || is_standlink f m) e ∙ (ap (λ (v : Bool). is_file f p.main || v) ((exact_gfid f g).1 (sym same)) ∙ or_true (is_file f p.main))
 
-copy_standby : (f g : Gfid) (p : Slot) → p.standby ≡ Some (Copy g) → g ≡ f → is_copy f p.standby ≡ true
+copy_standby :
+    (f g : Gfid) (p : Slot) → p.standby ≡ Some (Copy g) → g ≡ f → is_copy f p.standby ≡ true
 copy_standby f g p e same = ap (is_copy f) e ∙ (exact_gfid f g).1 (sym same)
 
 abbrev IsShown : ℕ → NameShape → Gfid → Type 0
@@ -156,7 +181,9 @@ IsShown count h f = (i : ℕ) × (i < count) × ((links_to f (core_at h i) ≡ t
 file_same : (g f : Gfid) → Some (IsFile g) ≡ Some (IsFile f) → g ≡ f
 file_same g f e = cc
 
-shape_shows : (count : ℕ) (h : NameShape) (f : Gfid) → NameFits count h → node_of h ≡ Some (IsFile f) → IsShown count h f
+shape_shows :
+    (count : ℕ) (h : NameShape) (f : Gfid) → NameFits count h → node_of h ≡ Some (IsFile f)
+    → IsShown count h f
 shape_shows count Bare f fits e = absurd (let z : None ≡ Some (IsFile f) = e in cc)
 shape_shows count (Folder g on) f fits e = absurd (let z : Some (IsDir g) ≡ Some (IsFile f) = e in cc)
 shape_shows count (Plain b g) f fits e = (b, fits, inl (links_main f g None (core_at (Plain b g) b) (here_at (Some (File g None)) b) (file_same g f e)))
@@ -166,7 +193,9 @@ shape_shows count (Standing x g) f fits e = (x, fits, inl (links_standby f g (co
 shape_shows count (Copied b g t) f fits e = (b, fits.0, inl (links_main f g None (core_at (Copied b g t) b) (here_at (Some (File g None)) b) (file_same g f e)))
 shape_shows count (Committed t g) f fits e = (t, fits, inr (copy_standby f g (core_at (Committed t g) t) (here_at (Some (Copy g)) t) (file_same g f e)))
 
-has_name : (d : Disk) (x : Entry) (f : Gfid) → NameInvariant d.count (cores_of d x) (Some (IsFile f)) → HasName d.count (view_of d f)
+has_name :
+    (d : Disk) (x : Entry) (f : Gfid) → NameInvariant d.count (cores_of d x) (Some (IsFile f))
+    → HasName d.count (view_of d f)
 has_name d x f n =
     let z = shape_shows d.count n.0 f n.1.fits (sym n.1.node) in (
       z.0,
@@ -183,12 +212,17 @@ some_none : {A : Type 0} (o : Option A) → is_some o ≡ true → o ≡ None �
 some_none o h e = (let z : true ≡ false = sym h ∙ ap is_some e in cc)
 
 -- what is shown of a file of the tree is what the tree has
-told_same : (shown tree : Option (List ℕ)) → ((bytes seen : List ℕ) → tree ≡ Some bytes → shown ≡ Some seen → seen ≡ bytes) → tree ≢ None → shown ≢ None → shown ≡ tree
+told_same :
+    (shown tree : Option (List ℕ))
+    → ((bytes seen : List ℕ) → tree ≡ Some bytes → shown ≡ Some seen → seen ≡ bytes) → tree ≢ None
+    → shown ≢ None → shown ≡ tree
 told_same None tree same some seen = absurd (seen refl)
 told_same (Some x) None same some seen = absurd (some refl)
 told_same (Some x) (Some y) same some seen = ap Some (same y x refl refl)
 
-file_truth : (d : Disk) (s : History) (p : ℕ → Claim) (f : Gfid) → Invariant d s p → IsInUse d s.tree f → FileTruth d f (s.tree.bytes f)
+file_truth :
+    (d : Disk) (s : History) (p : ℕ → Claim) (f : Gfid) → Invariant d s p → IsInUse d s.tree f
+    → FileTruth d f (s.tree.bytes f)
 file_truth d s p f k c = subst (FileTruth d f) (told c) (bytes_truth d f (k.things.files f).shape (k.things.files f).records)
   where
     told : IsInUse d s.tree f → bytes_shown (k.things.files f).shape ≡ s.tree.bytes f
@@ -201,7 +235,8 @@ file_truth d s p f k c = subst (FileTruth d f) (told c) (bytes_truth d f (k.thin
           | inr m ↦ some_none (standby_bytes (file_at d b f)) m (t.1 b l)
         ]))
 
-pub stands_of : (d : Disk) (s : History) (p : ℕ → Claim) → Invariant d s p → Early d s → Stands d s.tree
+pub stands_of :
+    (d : Disk) (s : History) (p : ℕ → Claim) → Invariant d s p → Early d s → Stands d s.tree
 stands_of d s p k now = record {
   names = λ x. name_truth d x (s.tree.names x) (k.things.names x);
   dirs = λ g. (k.things.dirs g).homed;
@@ -210,7 +245,9 @@ stands_of d s p k now = record {
 
 -- ---- each file of the tree stands once, on its holder
 
-pub placed_of : (d : Disk) (s : History) (p : ℕ → Claim) (x : Entry) (f : Gfid) → Invariant d s p → Early d s → s.run ≡ 1 → s.tree.names x ≡ Some (IsFile f) → Placed d x
+pub placed_of :
+    (d : Disk) (s : History) (p : ℕ → Claim) (x : Entry) (f : Gfid) → Invariant d s p → Early d s
+    → s.run ≡ 1 → s.tree.names x ≡ Some (IsFile f) → Placed d x
 placed_of d s p x f k now first told = elim (stands_plainly d x (s.tree.names x) (k.things.names x) (now.plain x)) [
   | Nowhere z ↦ absurd (let w : None ≡ Some (IsFile f) = sym z.node ∙ told in cc)
   | AsFolder z ↦ absurd (let w : Some (IsDir z.directory) ≡ Some (IsFile f) = sym z.stands.node ∙ told in cc)

@@ -1,4 +1,5 @@
--- What a request touches that changes one guarded slot, and at most one file whose names are all guarded.
+-- What a request touches that changes one guarded slot,
+-- and at most one file whose names are all guarded.
 use Rattle.std.proofs.Common.{◌≡◌, ◌≢◌, ◌<◌, ℕ, true, false, refl, sym, ap, ◌∙◌, subst, inl, inr, ◌⊎◌}
 use Rattle.std.specs.Prelude.{Option, Some, None, is_some}
 use Rattle.dht_types.specs.Gfid.{Entry, anchor}

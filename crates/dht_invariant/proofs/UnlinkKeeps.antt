@@ -1,4 +1,5 @@
--- An unlink that is carried out keeps the clauses: its guarded name is bare, its file has a name less, and nothing else changes.
+-- An unlink that is carried out keeps the clauses: its guarded name
+-- is bare, its file has a name less, and nothing else changes.
 use Rattle.std.proofs.Common.{◌≡◌, ◌≢◌, ◌<◌, ℕ, Bool, true, false, List, refl, sym, ap, ◌∙◌, subst, inl, inr}
 use Rattle.std.specs.Prelude.{Option, Some, None, ◌&&◌, ◌||◌, unwrap_or}
 use Rattle.dht_types.proofs.PutLaws.{put_same, put_other, exact_entry, exact_gfid}
@@ -55,11 +56,16 @@ record Leaves (x : Entry) (f : Gfid) (c new : Contents) : Type 0 where
   store : new.store ≡ with_slot c.store x (without_main (slot c.store x))
   opens : new.opens ≡ c.opens
 
--- what an unlink comes to, where its directory is there, and its slot and its file are as it wants them, or not
+-- what an unlink comes to, where its directory is there,
+-- and its slot and its file are as it wants them, or not
 abbrev unlinked : Gfid → List ℕ → Gfid → Contents → Option DirRecord → Bool → Outcome Contents
 unlinked d n f c o v = within (with_store c) (in_dir o (λ r. on_slot (Unlink d n f) c.store (d, n) (when v (without_main (slot c.store (d, n))))))
 
-left : (d : Gfid) (n : List ℕ) (f : Gfid) (c new : Contents) (gives : Given) (o : Option DirRecord) (v : Bool) → (is_plain f (slot c.store (d, n)).main && is_live (file c.store f)) ≡ v → unlinked d n f c o v ≡ Do gives new → Leaves (d, n) f c new
+left :
+    (d : Gfid) (n : List ℕ) (f : Gfid) (c new : Contents) (gives : Given) (o : Option DirRecord)
+    (v : Bool)
+    → (is_plain f (slot c.store (d, n)).main && is_live (file c.store f)) ≡ v
+    → unlinked d n f c o v ≡ Do gives new → Leaves (d, n) f c new
 left d n f c new gives None v e done = absurd (let z : Refuse why.Nodir ≡ Do gives new = done in cc)
 left d n f c new gives (Some x) false e done = absurd (let z : Refuse (why.Slot (slot_shown (slot c.store (d, n)))) ≡ Do gives new = done in cc)
 left d n f c new gives (Some x) true e done = record {

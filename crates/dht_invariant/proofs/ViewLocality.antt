@@ -88,7 +88,8 @@ core_shows f p q e = record {
   copies = ap (λ (x : Slot). is_copy f x.standby) e;
 }
 
-stays_core : (old new : Store) (x : Entry) → SlotStays old new x → core (slot new x) ≡ core (slot old x)
+stays_core :
+    (old new : Store) (x : Entry) → SlotStays old new x → core (slot new x) ≡ core (slot old x)
 stays_core old new x (Same e l) = ap core e
 stays_core old new x (Went e k) = ap core k ∙ sym e
 

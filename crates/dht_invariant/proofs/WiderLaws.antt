@@ -1,4 +1,5 @@
--- What the invariant of a name and of a file keeps where there are more bricks, on which nothing of it stands.
+-- What the invariant of a name and of a file keeps where
+-- there are more bricks, on which nothing of it stands.
 use Rattle.std.proofs.Common.{◌≡◌, ◌≢◌, ◌<◌, ◌≤◌, ℕ, Bool, true, false, List, refl, sym, ap, ◌∙◌, inl, inr, arith}
 use Rattle.std.specs.Prelude.{Option, Some, None}
 use Rattle.std.proofs.lemmas.Bool.{cases_lt}
@@ -38,7 +39,9 @@ name_fits m n (Copied b f t) l fits = (less b m n fits.0 l, less t m n fits.1 l,
 name_fits m n (Committed t f) l fits = less t m n fits l
 
 -- a slot whose parts are both none
-none_bare : (x : Option Main) (y : Option Standby) → x ≡ None → y ≡ None → (let p : Slot = record { main = x; standby = y } in p) ≡ bare
+none_bare :
+    (x : Option Main) (y : Option Standby) → x ≡ None → y ≡ None
+    → (let p : Slot = record { main = x; standby = y } in p) ≡ bare
 none_bare x y h k = λ j. record { main = h j; standby = k j }
 
 core_above : (m i : ℕ) (h : NameShape) → m ≤ i → NameFits m h → core_at h i ≡ bare
@@ -51,7 +54,9 @@ core_above m i (Standing x g) l fits = none_bare _ _ refl (here_off (Some (Stand
 core_above m i (Copied b f t) l fits = none_bare _ _ (here_off (Some (File f None)) b i (apart i b m fits.0 l)) (here_off (Some (Copy f)) t i (apart i t m fits.1 l))
 core_above m i (Committed t f) l fits = none_bare _ _ refl (here_off (Some (Copy f)) t i (apart i t m fits l))
 
-pub name_wider : (m n : ℕ) (old new : ℕ → Slot) (t : Option Node) → m ≤ n → ((b : ℕ) → b < m → new b ≡ old b) → ((b : ℕ) → m ≤ b → b < n → new b ≡ bare) → NameInvariant m old t → NameInvariant n new t
+pub name_wider :
+    (m n : ℕ) (old new : ℕ → Slot) (t : Option Node) → m ≤ n → ((b : ℕ) → b < m → new b ≡ old b)
+    → ((b : ℕ) → m ≤ b → b < n → new b ≡ bare) → NameInvariant m old t → NameInvariant n new t
 name_wider m n old new t l same none h = (
   h.0,
   record {
@@ -82,7 +87,8 @@ record_above m i (Copying b hop t bytes c) l fits =
     ∙ here_off (Some (stored.Standby c)) t.0 i (apart i t.0 m fits.1 l)
 record_above m i (Moved t c) l fits = here_off (Some (stored.Standby c)) t i (apart i t m fits l)
 
--- the bricks that were there show the file as before, the further ones do not show it, and fewer have it open
+-- the bricks that were there show the file as before, the
+-- further ones do not show it, and fewer have it open
 pub record ShowsWider (m n : ℕ) (v w : FileView) : Type 0 where
   pub more : m ≤ n
   pub records : (b : ℕ) → b < m → w.records b ≡ v.records b
@@ -96,13 +102,19 @@ pub record ShowsWider (m n : ℕ) (v w : FileView) : Type 0 where
   pub sealed : w.sealed ≡ true → v.sealed ≡ true
 
 -- what is false where it was not there before
-was_true : (m n : ℕ) (p q : ℕ → Entry → Bool) → ((b : ℕ) (x : Entry) → b < m → q b x ≡ p b x) → ((b : ℕ) (x : Entry) → m ≤ b → b < n → q b x ≡ false) → (b : ℕ) (x : Entry) → b < n → q b x ≡ true → (b < m) × (p b x ≡ true)
+was_true :
+    (m n : ℕ) (p q : ℕ → Entry → Bool) → ((b : ℕ) (x : Entry) → b < m → q b x ≡ p b x)
+    → ((b : ℕ) (x : Entry) → m ≤ b → b < n → q b x ≡ false) → (b : ℕ) (x : Entry) → b < n
+    → q b x ≡ true → (b < m) × (p b x ≡ true)
 was_true m n p q same none b x l h = elim (cases_lt b m) [
   | inl k ↦ (k, sym (same b x k) ∙ h)
   | inr k ↦ absurd (true_false (q b x) h (none b x k l))
 ]
 
-still_false : (m n : ℕ) (p q : ℕ → Entry → Bool) → ((b : ℕ) (x : Entry) → b < m → q b x ≡ p b x) → ((b : ℕ) (x : Entry) → m ≤ b → b < n → q b x ≡ false) → ((b : ℕ) (x : Entry) → b < m → p b x ≡ false) → (b : ℕ) (x : Entry) → b < n → q b x ≡ false
+still_false :
+    (m n : ℕ) (p q : ℕ → Entry → Bool) → ((b : ℕ) (x : Entry) → b < m → q b x ≡ p b x)
+    → ((b : ℕ) (x : Entry) → m ≤ b → b < n → q b x ≡ false)
+    → ((b : ℕ) (x : Entry) → b < m → p b x ≡ false) → (b : ℕ) (x : Entry) → b < n → q b x ≡ false
 still_false m n p q same none h b x l = elim (cases_lt b m) [
   | inl k ↦ same b x k ∙ h b x k
   | inr k ↦ none b x k l

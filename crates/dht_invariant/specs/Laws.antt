@@ -137,7 +137,8 @@ pub record IsMine (s t : Scene) (g : Gfid) : Type 0 where
   pub own : IsOwn s.history.run s.who s.mine.number g
   pub did : t.mine.deeds ≡ None → ⊥
 
--- what holds is kept, a gfid that comes into use is the call's own, and nothing is touched but what may be
+-- what holds is kept, a gfid that comes into use is the
+-- call's own, and nothing is touched but what may be
 pub record Carries (s t : Scene) : Type 0 where
   pub things : Things t.disk t.history.tree (most_hops t.history) t.claims
   pub early : Early t.disk t.history
@@ -188,8 +189,8 @@ NamesArePlaced =
 
 -- ---- locality
 
--- a brick that carries out a request changes at most one slot, one directory record, one file record,
--- and one lock, registration or seal; but the linktos of a directory go with it
+-- a brick that carries out a request changes at most one slot, one directory record, one
+-- file record, and one lock, registration or seal; but the linktos of a directory go with it
 abbrev pub RowsAreLocal : Type 0
 RowsAreLocal =
     (bricks : List (List ℕ)) (client : ClientNo) (call : CallNo) (q : Request) (c new : Contents) (given : Given)

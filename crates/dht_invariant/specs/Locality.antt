@@ -1,4 +1,5 @@
--- What a request changes at most, what it names by that, and what each clause of the invariant reads.
+-- What a request changes at most, what it names by
+-- that, and what each clause of the invariant reads.
 use Rattle.std.specs.Prelude.{ℕ, Bool, true, ◌≡◌, ◌≢◌, ◌⊎◌, ◌||◌, Option, Some, None, List, is_some}
 use Rattle.std.specs.FinMap.{get}
 use Rattle.std.specs.Option.{option_map}
@@ -41,8 +42,8 @@ pub data Hold : Type 0 where
   ARegistration : Registration → Hold
   ASeal : Gfid → Hold
 
--- what a request changes at most: a slot, the record of a directory and that of a file, and one hold.
--- turned is the directory of which a copy comes or goes
+-- what a request changes at most: a slot, the record of a directory and that of
+-- a file, and one hold. turned is the directory of which a copy comes or goes
 pub record Reach : Type 0 where
   pub stored : Places
   pub turned : Option Gfid
@@ -95,7 +96,8 @@ pub record ChangesWithin (p : Reach) (old new : Contents) : Type 0 where
   pub seals : (f : Gfid) → p.hold ≢ ASeal f → get new.opens.sealed f ≡ get old.opens.sealed f
 
 -- a brick carried out a request of a client's call
-pub record CarriesOut (client : ClientNo) (call : CallNo) (b : ℕ) (q : Request) (d e : Disk) : Type 0 where
+pub record CarriesOut (client : ClientNo) (call : CallNo) (b : ℕ) (q : Request) (d e : Disk)
+    : Type 0 where
   pub bricks : List (List ℕ)
   pub given : Given
   pub new : Contents
@@ -116,8 +118,8 @@ pub data NamesFile (p : Reach) (b : ℕ) (d e : Disk) (f : Gfid) : Type 0 where
   ByRegistration : (r : Registration) → p.hold ≡ ARegistration r → r.file ≡ f → NamesFile p b d e f
   BySeal : p.hold ≡ ASeal f → NamesFile p b d e f
 
--- a directory whose record it changes, or whose name the slot is, before or after, or whose copy there
--- is in a directory of which a copy comes or goes
+-- a directory whose record it changes, or whose name the slot is, before or
+-- after, or whose copy there is in a directory of which a copy comes or goes
 pub data NamesDir (p : Reach) (b : ℕ) (d e : Disk) (g : Gfid) : Type 0 where
   ByDirRecord : p.stored.dir ≡ Some g → NamesDir p b d e g
   ByDirName : (x : Entry) → p.stored.slot ≡ Some x
@@ -164,7 +166,8 @@ abbrev pub NameClause : Disk → Tree → Entry → Type 0
 NameClause d t x = NameInvariant d.count (cores_of d x) (t.names x)
 
 abbrev pub FileClause : Disk → Tree → ℕ → (ℕ → Claim) → Gfid → Type 0
-FileClause d t top claims f = FileInvariant d.count top (places_of claims f) (view_of d f) (t.bytes f)
+FileClause d t top claims f =
+    FileInvariant d.count top (places_of claims f) (view_of d f) (t.bytes f)
 
 abbrev pub DirClause : Disk → Tree → Gfid → Type 0
 DirClause d t g = DirInvariant d.count g (dir_view d g) (t.dirs g) (t.descents g)
@@ -207,5 +210,6 @@ pub record OthersStand (p : Reach) (b : ℕ) (d e : Disk) (t u : Tree) (low top 
       → (NamesDir p b d e g → ⊥) → (IsNode p t g → ⊥) → DirClause d t g → DirClause e u g
   pub locks : (i : ℕ) (key : Key)
       → (NamesLock p b i key → ⊥) → LockClause d claims i key → LockClause e claims i key
-  pub housed : (x : Entry) (i : ℕ) → p.stored.slot ≢ Some x → HousedClause d x i → HousedClause e x i
+  pub housed :
+      (x : Entry) (i : ℕ) → p.stored.slot ≢ Some x → HousedClause d x i → HousedClause e x i
   pub roots : (i : ℕ) → p.turned ≢ Some root → RootClause d i → RootClause e i

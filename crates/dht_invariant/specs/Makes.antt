@@ -17,7 +17,8 @@ use Rattle.dht_section.specs.Views.{cores_of}
 -- one brick changed what it stores, at these places only
 pub record Framed (p : Places) (b : ℕ) (d e : Disk) : Type 0 where
   pub count : e.count ≡ d.count
-  pub slots : (i : ℕ) (x : Entry) → p.slot ≢ Some x → p.dropped ≢ Some x.0 → slot_at e i x ≡ slot_at d i x
+  pub slots :
+      (i : ℕ) (x : Entry) → p.slot ≢ Some x → p.dropped ≢ Some x.0 → slot_at e i x ≡ slot_at d i x
   pub files : (i : ℕ) (f : Gfid) → p.file ≢ Some f → file_at e i f ≡ file_at d i f
   pub dirs : (i : ℕ) (g : Gfid) → p.dir ≢ Some g → dir_at e i g ≡ dir_at d i g
   pub off : (i : ℕ) → i ≢ b → e.brick i ≡ d.brick i

@@ -1,5 +1,5 @@
--- What one client's request may touch: what it guards by a lock, and what nobody's knowledge rests on.
--- What another client touches is what others may do.
+-- What one client's request may touch: what it guards by a lock, and what
+-- nobody's knowledge rests on. What another client touches is what others may do.
 use Rattle.std.specs.Prelude.{ℕ, Bool, true, ◌<◌, ◌≡◌, ◌≢◌, ◌⊎◌, Some, None}
 use Rattle.dht_types.specs.Gfid.{Entry}
 use Rattle.dht_types.specs.Tree.{Tree, Descent}
@@ -19,10 +19,13 @@ abbrev pub OwnsFile : Scene → Gfid → Type 0
 OwnsFile o f =
     (e : Entry) (b : ℕ) → b < o.disk.count → links_to f (slot_at o.disk b e) ≡ true → Guards o e
 
--- what a request may do to a directory that its client does not hold alone: nothing, clear a word, or add a copy
+-- what a request may do to a directory that its client does
+-- not hold alone: nothing, clear a word, or add a copy
 pub data DirStays (o : Scene) (e : Disk) (b : ℕ) (g : Gfid) : Type 0 where
   Same : dir_at e b g ≡ dir_at o.disk b g → DirStays o e b g
-  Cleared : (r q : DirRecord) → dir_at o.disk b g ≡ Some r → dir_at e b g ≡ Some q → CopyStays r q → DirStays o e b g
+  Cleared :
+      (r q : DirRecord) → dir_at o.disk b g ≡ Some r → dir_at e b g ≡ Some q → CopyStays r q
+      → DirStays o e b g
   Added : dir_at o.disk b g ≡ None → AllPlanned e o.history.weights g → DirStays o e b g
 
 -- the name grew at most

@@ -17,8 +17,10 @@ use Rattle.dht_section.specs.Scene.{Scene}
 abbrev pub scene : Disk → History → (ℕ → Claim) → ClientNo → PendingCall → Scene
 scene d s claims c r = record { disk = d; history = s; claims = claims; who = c; mine = r }
 
--- only client c did something, or none did: the invariant holds afterwards, and to every other client it is what others may do
-pub record Transition (c : ℕ) (d : Disk) (s : History) (p : ℕ → Claim) (e : Disk) (t : History) (q : ℕ → Claim) : Type 0 where
+-- only client c did something, or none did: the invariant holds
+-- afterwards, and to every other client it is what others may do
+pub record Transition (c : ℕ) (d : Disk) (s : History) (p : ℕ → Claim) (e : Disk) (t : History)
+    (q : ℕ → Claim) : Type 0 where
   pub count : e.count ≡ d.count
   pub kept : Invariant e t q
   pub early : Early e t
@@ -46,8 +48,8 @@ pub record IsUnmoved (was : Option PendingCall) (r : PendingCall) : Type 0 where
   pub number : before.number ≡ r.number
   pub fresh : before.deeds ≡ None
 
--- the line tells nothing of the tree, the volume and its run, and of no client's call but c's; which
--- goes on, has ended, or has a number that no call had
+-- the line tells nothing of the tree, the volume and its run, and of no client's
+-- call but c's; which goes on, has ended, or has a number that no call had
 pub record IsQuiet (c : ℕ) (s : History) (x : Line) : Type 0 where
   pub tree : (tells s x).tree ≡ s.tree
   pub weights : (tells s x).weights ≡ s.weights

@@ -26,7 +26,9 @@ pub not_true : (b : Bool) → (b ≡ true → ⊥) → b ≡ false
 not_true true h = absurd (h refl)
 not_true false h = refl
 
-pub is_of-both : (key : Key) (client : ℕ) (hold : Hold) → is_of key client hold ≡ true → (key ≡ hold.key) × (client ≡ hold.client.0)
+pub is_of-both :
+    (key : Key) (client : ℕ) (hold : Hold) → is_of key client hold ≡ true
+    → (key ≡ hold.key) × (client ≡ hold.client.0)
 is_of-both key client hold h =
     let p = both (same_key key hold.key) (nat_eq client hold.client.0) h in
     ((exact_key key hold.key).0 p.0, (Decides-eqb client hold.client.0).0 p.1)
@@ -66,7 +68,8 @@ pub hold_cmp-client : (key : Key) (c d : ℕ) → hold_cmp (hold key c) (hold ke
 hold_cmp-client key c d = ap (λ o. ordering_then o (nat_cmp c d)) (tied_itself key_total key)
 
 -- the first and the last that clients can have of a key are in order
-pub hold_le : (key : Key) (a b : Hold) → a ≡ hold key 0 → b ≡ hold key 65535 → is_gt (hold_cmp a b) ≡ false
+pub hold_le :
+    (key : Key) (a b : Hold) → a ≡ hold key 0 → b ≡ hold key 65535 → is_gt (hold_cmp a b) ≡ false
 hold_le key a b e f = (λ i. is_gt (hold_cmp (e i) (f i))) ∙ ap is_gt (hold_cmp-client key 0 65535)
 
 -- the test of a hold says whether it ties

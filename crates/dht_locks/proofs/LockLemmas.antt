@@ -22,7 +22,9 @@ abbrev pub locks_of : List (Hold × Mode) → Locks
 locks_of es key client = lookup (is_of key client) es
 
 -- a look-up by the order is one by the test
-pub lookup-tied : (es : List (Hold × Mode)) (h : Hold) → lookup (is_at (hold_cmp h)) es ≡ locks_of es h.key h.client.0
+pub lookup-tied :
+    (es : List (Hold × Mode)) (h : Hold)
+    → lookup (is_at (hold_cmp h)) es ≡ locks_of es h.key h.client.0
 lookup-tied es h = λ i. lookup (λ k. is_of-tied h k i) es
 
 -- the two do not both hold
@@ -30,7 +32,10 @@ abbrev pub Apart : Key → ℕ → Key → ℕ → Type 0
 Apart key client k c = key ≡ k → client ≡ c → ⊥
 
 -- a function of locks that differs from another at one lock of one client
-put_hold : (f g : Locks) (k : Key) (c : ℕ) (v : Option Mode) → g k c ≡ v → ((key : Key) (client : ℕ) → Apart key client k c → g key client ≡ f key client) → g ≡ held f k c v
+put_hold :
+    (f g : Locks) (k : Key) (c : ℕ) (v : Option Mode) → g k c ≡ v
+    → ((key : Key) (client : ℕ) → Apart key client k c → g key client ≡ f key client)
+    → g ≡ held f k c v
 put_hold f g k c v here others =
     λ i key client.
     put_elim (λ (h : ℕ → Option Mode). g key client ≡ h client) same_key exact_key f k (put nat_eq (f k) c v) key
@@ -40,7 +45,9 @@ put_hold f g k c v here others =
     (λ differ. others key client (λ q _. differ q)) i
 
 -- a map that is changed at a hold has the locks changed there
-pub held-updated : (m n : BTreeMap Hold Mode) (k : Key) (c : ℕ) (v : Option Mode) → Updates hold_cmp m n (hold k c) v → locks_of n.entries ≡ held (locks_of m.entries) k c v
+pub held-updated :
+    (m n : BTreeMap Hold Mode) (k : Key) (c : ℕ) (v : Option Mode)
+    → Updates hold_cmp m n (hold k c) v → locks_of n.entries ≡ held (locks_of m.entries) k c v
 held-updated m n k c v u =
     put_hold (locks_of m.entries) (locks_of n.entries) k c v
     (sym (lookup-tied n.entries (hold k c)) ∙ u.1)
@@ -53,7 +60,10 @@ cond-not true v = refl
 cond-not false v = refl
 
 -- where the holds of a client are taken out, it holds no lock
-pub locks_without-filter : (client : ℕ) (es : List (Hold × Mode)) → locks_of (filter (λ e. not (nat_eq client e.0.client.0)) es) ≡ locks_without client (locks_of es)
+pub locks_without-filter :
+    (client : ℕ) (es : List (Hold × Mode))
+    → locks_of (filter (λ e. not (nat_eq client e.0.client.0)) es)
+    ≡ locks_without client (locks_of es)
 locks_without-filter client es =
     λ i key other.
     (lookup-filter-keys (is_of key other) (λ h. not (nat_eq client h.client.0)) (not (nat_eq client other)) (λ h e. ap (λ c. not (nat_eq client c)) (sym (is_of-both key other h e).1)) es

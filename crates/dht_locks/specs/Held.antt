@@ -21,6 +21,8 @@ locks_in l key client = lookup (is_of key client) l.held.entries
 
 -- the lock was granted; or a client has to be waited for; or none has, and there was no memory
 abbrev pub Asks : ClientNo → Key → Mode → Locks → Asked → Locks → Type 0
-Asks client key mode old Granted new = (awaited old client key mode ≡ None) × (new ≡ held old key client.0 (Some mode))
-Asks client key mode old (Wait holder) new = (awaited old client key mode ≡ Some holder.0) × (new ≡ old)
+Asks client key mode old Granted new =
+    (awaited old client key mode ≡ None) × (new ≡ held old key client.0 (Some mode))
+Asks client key mode old (Wait holder) new =
+    (awaited old client key mode ≡ Some holder.0) × (new ≡ old)
 Asks client key mode old OutOfMemory new = (awaited old client key mode ≡ None) × (new ≡ old)

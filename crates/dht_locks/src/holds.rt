@@ -37,8 +37,8 @@ pub struct Hold {
     client: ClientNo,
 }
 
-/// The locks that clients hold on a brick. Contracts speak of `locks_in`: how each client holds each
-/// lock.
+/// The locks that clients hold on a brick. Contracts speak of `locks_in`: how each client holds
+/// each lock.
 #[derive(Drop)]
 pub struct Locks {
     held: BTreeMap<Hold, Mode>,
@@ -71,8 +71,8 @@ impl Locks {
         Some(hold.client)
     }
 
-    /// Asks for a lock. `Wait` comes exactly where another client holds it in a mode that excludes the
-    /// one asked for, and names the lowest such client. What is not granted changes nothing.
+    /// Asks for a lock. `Wait` comes exactly where another client holds it in a mode that excludes
+    /// the one asked for, and names the lowest such client. What is not granted changes nothing.
     pub fn ask(&mut self, client: ClientNo, key: &Key, mode: Mode) -> Asked
         ensures { Asks client key.now mode (locks_in self.old) result (locks_in self.new) }
     {

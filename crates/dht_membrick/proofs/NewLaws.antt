@@ -19,7 +19,8 @@ none_kept true = refl
 none_kept false = refl
 
 -- of no slots none are left
-pub none_retained : (test : Entry → Bool) → retain_keys {X = Slot} {R = entry_cmp} empty test ≡ empty
+pub none_retained :
+    (test : Entry → Bool) → retain_keys {X = Slot} {R = entry_cmp} empty test ≡ empty
 none_retained test =
     let none : Slots = empty in
     same_map entry_total entry_exact (retain_keys none test) none (λ e.
@@ -28,7 +29,9 @@ none_retained test =
     ∙ (none_kept (test e) ∙ sym (get-empty entry_cmp e))))
 
 -- a poke of what is stored is one of the whole
-pub poked_whole : (c : Contents) (to : Option Store) (s : Store) (result : Result (Unit {0}) PokeFault) → PokesTo to c.store result s → PokesTo (option_map (with_store c) to) c result (with_store c s)
+pub poked_whole :
+    (c : Contents) (to : Option Store) (s : Store) (result : Result (Unit {0}) PokeFault)
+    → PokesTo to c.store result s → PokesTo (option_map (with_store c) to) c result (with_store c s)
 poked_whole c to s (Ok done) h = ap (option_map (with_store c)) h
 poked_whole c to s (Err AtSlot) h = (ap (option_map (with_store c)) h.0, ap (with_store c) h.1)
 poked_whole c to s (Err Failed) h = ap (with_store c) h
@@ -39,7 +42,13 @@ abbrev pub root_saved : Option (List ℕ) → SavedDir
 root_saved v = record { gfid = root; dir = record { place = None; depth = 0; value = v }; slots = [] }
 
 -- where that record was put into empty tables, and nothing else is there, the brick is new
-pub new_contents : (t : Tables) (f : Files) (o : Opens) (l : Locks) (names : List (List ℕ)) (v w : Option (List ℕ)) → t ≡ dir_restored root (Some (root_saved v)) (record { dirs = empty; slots = empty; bricks = names }) → f ≡ empty → o ≡ no_opens → l ≡ no_locks → v ≡ w → let c : Contents = record { store = store_of t f; opens = o; locks = l } in c ≡ newborn w
+pub new_contents :
+    (t : Tables) (f : Files) (o : Opens) (l : Locks) (names : List (List ℕ)) (v w : Option (List ℕ))
+    → t
+    ≡ dir_restored root (Some (root_saved v))
+    (record { dirs = empty; slots = empty; bricks = names })
+    → f ≡ empty → o ≡ no_opens → l ≡ no_locks → v ≡ w
+    → let c : Contents = record { store = store_of t f; opens = o; locks = l } in c ≡ newborn w
 new_contents t f o l names v w e no_files no_open unlocked same =
     let none : Dirs = empty in
     let dirs : t.dirs ≡ insert none root (root_saved w).dir = ap (λ (x : Tables). x.dirs) e ∙ ap (λ y. insert none root (root_saved y).dir) same in

@@ -18,7 +18,11 @@ use Rattle.dht_membrick.specs.declared.brick.MemBrick.{MemBrick}
 
 -- what it contains: what its tables tell
 abbrev pub contents_in : MemBrick → Contents
-contents_in m = record { store = store_of (tables_in m.tables) (files_in m.files); opens = opens_in m.opens; locks = locks_in m.locks }
+contents_in m = record {
+  store = store_of (tables_in m.tables) (files_in m.files);
+  opens = opens_in m.opens;
+  locks = locks_in m.locks;
+}
 
 -- it fails only where it is armed
 unfoldable pub mem_state : MemBrick → BrickState
@@ -34,9 +38,12 @@ mem_state m = record {
   spare = m.journal.spare;
 }
 
--- a request that reached the brick was answered: it failed where the brick was armed, and else its row was followed, or there was no memory
-pub record Answered (client : ClientNo) (call : CallNo) (q : Request) (old : BrickState) (r : Reply) (new : BrickState) : Type 0 where
-  pub row : ServesOrFails (row old.volume.names client call q old.contents) old.contents r new.contents
+-- a request that reached the brick was answered: it failed where the
+-- brick was armed, and else its row was followed, or there was no memory
+pub record Answered (client : ClientNo) (call : CallNo) (q : Request) (old : BrickState) (r : Reply)
+    (new : BrickState) : Type 0 where
+  pub row :
+      ServesOrFails (row old.volume.names client call q old.contents) old.contents r new.contents
   pub reached : r ≢ reply.Down
   pub armed : (r ≡ reply.Failed) ↔ (old.is_armed ≡ true)
   pub failed : r ≡ reply.Failed → HasFault old.faults new.faults
@@ -44,4 +51,5 @@ pub record Answered (client : ClientNo) (call : CallNo) (q : Request) (old : Bri
   pub count : old.faults ≤ new.faults
   pub quiet : r ≢ reply.Failed → new.faults ≡ old.faults
   pub disarmed : new.is_armed ≡ false
-  pub same : new ≡ record old { contents = new.contents; is_armed = new.is_armed; faults = new.faults }
+  pub same :
+      new ≡ record old { contents = new.contents; is_armed = new.is_armed; faults = new.faults }

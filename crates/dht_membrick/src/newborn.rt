@@ -39,8 +39,8 @@ fn planned_value(
     }
 }
 
-/// The attribute of the root on a new brick: the planned one, if the brick is among the first of its
-/// volume, and none if it came later.
+/// The attribute of the root on a new brick: the planned one, if the brick is among the first of
+/// its volume, and none if it came later.
 fn first_value(
     alloc: Global,
     volume: &Volume,
@@ -62,8 +62,11 @@ fn first_value(
 /// The record of the root, with this attribute.
 fn root_record(alloc: Global, value: Option<Bytes>) -> Saved
     requires { IfSome value IsValue }
-    ensures is { result
-        ≡ Saved.Dir (record { gfid = root; dir = record { place = None; depth = 0; value = value }; slots = [] }) }
+    ensures is { result ≡ Saved.Dir (record {
+      gfid = root;
+      dir = record { place = None; depth = 0; value = value };
+      slots = [];
+    }) }
     ensures spelled { IsDirOf root result }
 {
     Saved::Dir(SavedDir {
@@ -78,8 +81,9 @@ fn root_record(alloc: Global, value: Option<Bytes>) -> Saved
 }
 
 impl MemBrick {
-    /// A new brick of this number, which knows this volume: it contains the root alone, which has its
-    /// planned range if the brick is among the first of the volume, and no range if it came later.
+    /// A new brick of this number, which knows this volume: it contains the root alone, which has
+    /// its planned range if the brick is among the first of the volume, and no range if it came
+    /// later.
     #[tactic(auto, unfolding(crate::specs::State::mem_state))]
     pub fn new(
         alloc: Global,

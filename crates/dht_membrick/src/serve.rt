@@ -30,8 +30,8 @@ impl MemBrick {
         self.carry_out(client, call, request)
     }
 
-    /// Carries a request out, or refuses it, by its row; or there is no memory for it, and nothing is
-    /// done.
+    /// Carries a request out, or refuses it, by its row; or there is no memory for it, and nothing
+    /// is done.
     #[tactic(auto, unfolding(crate::specs::State::mem_state))]
     fn carry_out(&mut self, client: ClientNo, call: CallNo, request: &Request) -> Reply
         requires { MayBeSent (length (mem_state self.old).volume.names) request.now }

@@ -50,7 +50,10 @@ no_count Readied = refl
 no_count Copied = refl
 
 -- one more, or one less, in one way
-pub with_more : (j k : Kind) (t : Tally) → tally_count j (with_count k (tally_count k t + 1) t) ≡ tally_count j t + one_if (same_kind j k)
+pub with_more :
+    (j k : Kind) (t : Tally)
+    → tally_count j (with_count k (tally_count k t + 1) t)
+    ≡ tally_count j t + one_if (same_kind j k)
 with_more Visible Visible t = refl
 with_more Visible Named t = omega arith
 with_more Visible Marked t = omega arith
@@ -77,7 +80,10 @@ with_more Copied Marked t = omega arith
 with_more Copied Readied t = omega arith
 with_more Copied Copied t = refl
 
-pub with_less : (j k : Kind) (t : Tally) → 1 ≤ tally_count k t → tally_count j (with_count k (tally_count k t - 1) t) + one_if (same_kind j k) ≡ tally_count j t
+pub with_less :
+    (j k : Kind) (t : Tally) → 1 ≤ tally_count k t
+    → tally_count j (with_count k (tally_count k t - 1) t) + one_if (same_kind j k)
+    ≡ tally_count j t
 with_less Visible Visible t h = omega arith
 with_less Visible Named t h = omega arith
 with_less Visible Marked t h = omega arith
@@ -216,13 +222,17 @@ off true = refl
 off false = refl
 
 -- a count of another kind stays
-pub not_raised_by : (o : Option Gfid) (j k : Kind) (m n : Tallies) → Raises o j m n → same_kind k j ≡ false → (g : Gfid) → counter n g k ≡ counter m g k
+pub not_raised_by :
+    (o : Option Gfid) (j k : Kind) (m n : Tallies) → Raises o j m n → same_kind k j ≡ false
+    → (g : Gfid) → counter n g k ≡ counter m g k
 not_raised_by o j k m n r other g =
     let by = r g k in
     let none = ap (λ b. one_if (is_for g o && b)) other ∙ off (is_for g o) in
     omega (arith, by, none)
 
-pub not_lowered_by : (o : Option Gfid) (j k : Kind) (m n : Tallies) → Lowers o j m n → same_kind k j ≡ false → (g : Gfid) → counter n g k ≡ counter m g k
+pub not_lowered_by :
+    (o : Option Gfid) (j k : Kind) (m n : Tallies) → Lowers o j m n → same_kind k j ≡ false
+    → (g : Gfid) → counter n g k ≡ counter m g k
 not_lowered_by o j k m n r other g =
     let by = r g k in
     let none = ap (λ b. one_if (is_for g o && b)) other ∙ off (is_for g o) in
@@ -233,11 +243,15 @@ pub of_any : (P : Gfid → Type 0) (o : Option Gfid) → ((g : Gfid) → P g) �
 of_any P None h = tt
 of_any P (Some g) h = h g
 
-pub of_counted : (o : Option Gfid) (f : Gfid → ℕ) → ((g : Gfid) → one_if (is_for g o) ≤ f g) → IfSome o (λ g. 1 ≤ f g)
+pub of_counted :
+    (o : Option Gfid) (f : Gfid → ℕ) → ((g : Gfid) → one_if (is_for g o) ≤ f g)
+    → IfSome o (λ g. 1 ≤ f g)
 of_counted None f h = tt
 of_counted (Some g) f h = subst (λ b. one_if b ≤ f g) ((exact_gfid g g).1 refl) (h g)
 
-pub room_stays : (o : Option Gfid) (m n : Tallies) → KeepsAll m n → IfSome o (λ g. IsSome (get m g)) → IfSome o (λ g. IsSome (get n g))
+pub room_stays :
+    (o : Option Gfid) (m n : Tallies) → KeepsAll m n → IfSome o (λ g. IsSome (get m g))
+    → IfSome o (λ g. IsSome (get n g))
 room_stays None m n keeps h = tt
 room_stays (Some g) m n keeps h = keeps g h
 
@@ -247,7 +261,12 @@ all_kept m n q a b = λ g h. b g (a g h)
 pub counts_kept : (m n q : Tallies) → KeepsCounts m n → KeepsCounts n q → KeepsCounts m q
 counts_kept m n q a b = λ g k. b g k ∙ a g k
 
-pub raised_all : (d : Gfid) (s : SlotShown) (m0 m1 m2 m3 m4 m5 : Tallies) → Raises (counted Visible d s) Visible m0 m1 → Raises (counted Named d s) Named m1 m2 → Raises (counted Marked d s) Marked m2 m3 → Raises (counted Readied d s) Readied m3 m4 → Raises (counted Copied d s) Copied m4 m5 → (g : Gfid) → (k : Kind) → counter m5 g k ≡ counter m0 g k + weight k g d s
+pub raised_all :
+    (d : Gfid) (s : SlotShown) (m0 m1 m2 m3 m4 m5 : Tallies)
+    → Raises (counted Visible d s) Visible m0 m1 → Raises (counted Named d s) Named m1 m2
+    → Raises (counted Marked d s) Marked m2 m3 → Raises (counted Readied d s) Readied m3 m4
+    → Raises (counted Copied d s) Copied m4 m5 → (g : Gfid) → (k : Kind)
+    → counter m5 g k ≡ counter m0 g k + weight k g d s
 raised_all d s m0 m1 m2 m3 m4 m5 a b c e f g Visible =
     let aa = a g Visible in
     let bb = b g Visible in
@@ -309,7 +328,12 @@ raised_all d s m0 m1 m2 m3 m4 m5 a b c e f g Copied =
     let on_copied = on (is_for g (counted Copied d s)) in
     omega (arith, aa, bb, cc, ee, ff, off_visible, off_named, off_marked, off_readied, on_copied)
 
-pub lowered_all : (d : Gfid) (s : SlotShown) (m0 m1 m2 m3 m4 m5 : Tallies) → Lowers (counted Visible d s) Visible m0 m1 → Lowers (counted Named d s) Named m1 m2 → Lowers (counted Marked d s) Marked m2 m3 → Lowers (counted Readied d s) Readied m3 m4 → Lowers (counted Copied d s) Copied m4 m5 → (g : Gfid) → (k : Kind) → counter m5 g k + weight k g d s ≡ counter m0 g k
+pub lowered_all :
+    (d : Gfid) (s : SlotShown) (m0 m1 m2 m3 m4 m5 : Tallies)
+    → Lowers (counted Visible d s) Visible m0 m1 → Lowers (counted Named d s) Named m1 m2
+    → Lowers (counted Marked d s) Marked m2 m3 → Lowers (counted Readied d s) Readied m3 m4
+    → Lowers (counted Copied d s) Copied m4 m5 → (g : Gfid) → (k : Kind)
+    → counter m5 g k + weight k g d s ≡ counter m0 g k
 lowered_all d s m0 m1 m2 m3 m4 m5 a b c e f g Visible =
     let aa = a g Visible in
     let bb = b g Visible in
@@ -373,7 +397,9 @@ lowered_all d s m0 m1 m2 m3 m4 m5 a b c e f g Copied =
 
 -- ---- how many entries of a finite map pass a test, where one is put or taken away
 
-count-cons : {X : Type 0} (p : X → Bool) (x : X) (xs : List X) → count_by p (x ∷ xs) ≡ one_if (p x) + count_by p xs
+count-cons :
+    {X : Type 0} (p : X → Bool) (x : X) (xs : List X)
+    → count_by p (x ∷ xs) ≡ one_if (p x) + count_by p xs
 count-cons p x xs = sum_by-cons (λ y. cond (p y) 1 0) x xs
 
 second : (a b : Bool) → T (a && b) → T b
@@ -492,14 +518,18 @@ Recounts d old new t t2 = (g : Gfid) → (k : Kind) → counter t2 g k + weight 
 pub nothing : SlotShown
 nothing = slot_shown bare
 
-pub counted-insert : (m : Slots) (e : Entry) (p : Slot) (t t2 : Tallies) → IsCounted m t → Recounts e.0 (slot_shown (slot_in m e)) (slot_shown p) t t2 → IsCounted (insert m e p) t2
+pub counted-insert :
+    (m : Slots) (e : Entry) (p : Slot) (t t2 : Tallies) → IsCounted m t
+    → Recounts e.0 (slot_shown (slot_in m e)) (slot_shown p) t t2 → IsCounted (insert m e p) t2
 counted-insert m e p t t2 h r = λ g k.
     let was = h g k in
     let now = r g k in
     let all = slots-insert m e k g p in
     omega (arith, was, now, all)
 
-pub counted-remove : (m : Slots) (e : Entry) (t t2 : Tallies) → IsCounted m t → Recounts e.0 (slot_shown (slot_in m e)) (slot_shown bare) t t2 → IsCounted (remove m e) t2
+pub counted-remove :
+    (m : Slots) (e : Entry) (t t2 : Tallies) → IsCounted m t
+    → Recounts e.0 (slot_shown (slot_in m e)) (slot_shown bare) t t2 → IsCounted (remove m e) t2
 counted-remove m e t t2 h r = λ g k.
     let was = h g k in
     let now = r g k in
@@ -511,13 +541,17 @@ pub counted-same : (m : Slots) (t t2 : Tallies) → IsCounted m t → KeepsCount
 counted-same m t t2 h same = λ g k. same g k ∙ h g k
 
 -- a slot that is there was counted, and no count is larger than there are slots
-pub slot_is_counted : (m : Slots) (e : Entry) (t : Tallies) → IsCounted m t → (g : Gfid) → (k : Kind) → weight k g e.0 (slot_shown (slot_in m e)) ≤ counter t g k
+pub slot_is_counted :
+    (m : Slots) (e : Entry) (t : Tallies) → IsCounted m t → (g : Gfid) → (k : Kind)
+    → weight k g e.0 (slot_shown (slot_in m e)) ≤ counter t g k
 slot_is_counted m e t h g k =
     let was = h g k in
     let all = slots-remove m e k g in
     omega (arith, was, all)
 
-pub counts_are_few : (m : Slots) (t : Tallies) (n : ℕ) → IsCounted m t → n ≡ length (entries m) → n < 2 ^ 63 → (g : Gfid) → (k : Kind) → counter t g k < 2 ^ 63
+pub counts_are_few :
+    (m : Slots) (t : Tallies) (n : ℕ) → IsCounted m t → n ≡ length (entries m) → n < 2 ^ 63
+    → (g : Gfid) → (k : Kind) → counter t g k < 2 ^ 63
 counts_are_few m t n h e short g k =
     let was = h g k in
     let fits = count_by-le-length (counts_for k g) (entries m) in

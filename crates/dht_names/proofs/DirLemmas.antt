@@ -21,7 +21,12 @@ abbrev pub table_from : {X : Type 0} → List (Gfid × X) → FinMap gfid_cmp X
 table_from es = from_entries {R = gfid_cmp} es
 
 -- entries that differ at one key make finite maps that differ there
-pub insert-plain : {X : Type 0} (es fs : List (Gfid × X)) (k : Gfid) (v : X) → ((q : Gfid) → lookup (is_at (gfid_cmp q)) fs ≡ cond (is_at (gfid_cmp k) q) (Some v) (lookup (is_at (gfid_cmp q)) es)) → table_from fs ≡ insert (table_from es) k v
+pub insert-plain :
+    {X : Type 0} (es fs : List (Gfid × X)) (k : Gfid) (v : X)
+    → ((q : Gfid)
+    → lookup (is_at (gfid_cmp q)) fs
+    ≡ cond (is_at (gfid_cmp k) q) (Some v) (lookup (is_at (gfid_cmp q)) es))
+    → table_from fs ≡ insert (table_from es) k v
 insert-plain es fs k v h =
     same_map gfid_total gfid_exact (table_from fs) (insert (table_from es) k v) (λ q.
     get-plain gfid_total fs q ∙ h q
@@ -29,7 +34,12 @@ insert-plain es fs k v h =
     ∙ ap (cond (eq_by_cmp gfid_cmp q k) (Some v)) (sym (get-plain gfid_total es q))
     ∙ sym (get-insert gfid_total (table_from es) k v q))
 
-pub remove-plain : {X : Type 0} (es fs : List (Gfid × X)) (k : Gfid) → ((q : Gfid) → lookup (is_at (gfid_cmp q)) fs ≡ cond (is_at (gfid_cmp k) q) None (lookup (is_at (gfid_cmp q)) es)) → table_from fs ≡ remove (table_from es) k
+pub remove-plain :
+    {X : Type 0} (es fs : List (Gfid × X)) (k : Gfid)
+    → ((q : Gfid)
+    → lookup (is_at (gfid_cmp q)) fs
+    ≡ cond (is_at (gfid_cmp k) q) None (lookup (is_at (gfid_cmp q)) es))
+    → table_from fs ≡ remove (table_from es) k
 remove-plain es fs k h =
     same_map gfid_total gfid_exact (table_from fs) (remove (table_from es) k) (λ q.
     get-plain gfid_total fs q ∙ h q
@@ -47,7 +57,8 @@ twice true x y z = refl
 twice false x y z = refl
 
 -- what is put back where it was leaves the map as it was
-pub insert-back : (m : Dirs) (k : Gfid) (v w : DirRecord) → get m k ≡ Some w → insert (insert m k v) k w ≡ m
+pub insert-back :
+    (m : Dirs) (k : Gfid) (v w : DirRecord) → get m k ≡ Some w → insert (insert m k v) k w ≡ m
 insert-back m k v w old =
     same_map gfid_total gfid_exact (insert (insert m k v) k w) m (λ q.
     get-insert gfid_total (insert m k v) k w q
@@ -58,7 +69,8 @@ insert-back m k v w old =
       | false ↦ λ t. refl
     ] refl)
 
-pub remove-put : (m : Dirs) (k : Gfid) (v : DirRecord) → get m k ≡ None → remove (insert m k v) k ≡ m
+pub remove-put :
+    (m : Dirs) (k : Gfid) (v : DirRecord) → get m k ≡ None → remove (insert m k v) k ≡ m
 remove-put m k v none = remove-insert gfid_total gfid_exact m k v none
 
 -- what was put is there

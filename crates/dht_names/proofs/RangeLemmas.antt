@@ -26,7 +26,9 @@ use Rattle.dht_names.specs.declared.kept.KeptSlot.{KeptSlot}
 use Rattle.dht_names.proofs.CountLemmas.{gfid_ties}
 use Rattle.dht_names.proofs.SlotLemmas.{shown_slots, filter-map}
 
-get-outside : (m : Slots) (d : Gfid) (q : Entry) → get (slots_outside m d) q ≡ cond (not (same_gfid d q.0)) (get m q) None
+get-outside :
+    (m : Slots) (d : Gfid) (q : Entry)
+    → get (slots_outside m d) q ≡ cond (not (same_gfid d q.0)) (get m q) None
 get-outside m d q = get-retain_keys m (λ e. not (same_gfid d e.0)) q (λ x t. ap (λ (k : Entry). not (same_gfid d k.0)) (sym (entry_exact q x t)))
 
 tied : (r : Ordering) → is_eq r ≡ true → r ≡ Equal
@@ -34,7 +36,8 @@ tied Less e = cc
 tied Equal e = refl
 tied Greater e = cc
 
-gone_here : {X : Type 0} (b : Bool) (o : Option X) → b ≡ true → cond (not b) None None ≡ cond (not b) o None
+gone_here :
+    {X : Type 0} (b : Bool) (o : Option X) → b ≡ true → cond (not b) None None ≡ cond (not b) o None
 gone_here true o e = refl
 gone_here false o e = cc
 
@@ -43,7 +46,8 @@ not_empty m k zero e there = let none = ap (λ (x : Slots). is_some (get x k)) (
 not_empty m k (suc n) e there = omega arith
 
 -- a directory that has no slot can be dropped
-pub outside_same : (m : Slots) (d : Gfid) → ((q : Entry) → q.0 ≡ d → get m q ≡ None) → slots_outside m d ≡ m
+pub outside_same :
+    (m : Slots) (d : Gfid) → ((q : Entry) → q.0 ≡ d → get m q ≡ None) → slots_outside m d ≡ m
 outside_same m d none =
     same_map entry_total entry_exact (slots_outside m d) m (λ q.
     get-outside m d q
@@ -52,7 +56,8 @@ outside_same m d none =
       | false ↦ λ t. refl
     ] refl)
 
-not_less : (r : Ordering) (x : Ordering) → is_gt (ordering_then r x) ≡ false → (r ≡ Equal → ⊥) → r ≡ Less
+not_less :
+    (r : Ordering) (x : Ordering) → is_gt (ordering_then r x) ≡ false → (r ≡ Equal → ⊥) → r ≡ Less
 not_less Less x h n = refl
 not_less Equal x h n = absurd (n refl)
 not_less Greater x h n = cc
@@ -65,13 +70,17 @@ none_if None h = refl
 none_if (Some x) h = absurd (h refl)
 
 -- the names of another directory that come after those of this one are above each of these
-pub past : (d : Gfid) (k q : Entry) → is_gt (entry_cmp (d, []) k) ≡ false → same_gfid k.0 d ≡ false → q.0 ≡ d → is_gt (entry_cmp k q) ≡ true
+pub past :
+    (d : Gfid) (k q : Entry) → is_gt (entry_cmp (d, []) k) ≡ false → same_gfid k.0 d ≡ false
+    → q.0 ≡ d → is_gt (entry_cmp k q) ≡ true
 past d k q from other is =
     let less = not_less (gfid_cmp d k.0) (slice_cmp nat_cmp [] k.1) from (λ e. let t = sym other ∙ (exact_gfid k.0 d).1 (sym (gfid_exact d k.0 e)) in cc) in
     greater (gfid_cmp k.0 q.0) (slice_cmp nat_cmp k.1 q.1) (ap (gfid_cmp k.0) is ∙ gfid_total.antisymm k.0 d ∙ ap ordering_reverse less)
 
 -- e: what is there is not below the first that is there
-pub none_before : {X : Type 0} (d : Gfid) (k q : Entry) (o : Option X) → is_gt (entry_cmp (d, []) k) ≡ false → same_gfid k.0 d ≡ false → q.0 ≡ d → (IsSome o → is_gt (entry_cmp k q) ≡ false) → o ≡ None
+pub none_before :
+    {X : Type 0} (d : Gfid) (k q : Entry) (o : Option X) → is_gt (entry_cmp (d, []) k) ≡ false
+    → same_gfid k.0 d ≡ false → q.0 ≡ d → (IsSome o → is_gt (entry_cmp k q) ≡ false) → o ≡ None
 none_before d k q o from other is e = none_if o (λ s. let t = sym (past d k q from other is) ∙ e s in cc)
 
 least : (xs : List ℕ) → is_gt (slice_cmp nat_cmp [] xs) ≡ false
@@ -85,11 +94,14 @@ from_first d q is =
     ap (λ r. is_gt (ordering_then r (slice_cmp nat_cmp [] q.1))) same ∙ least q.1
 
 -- what holds of the first item, if there is one, holds of the first
-pub of_first : {A : Type 0} (r : List A) (a : A) (rest : List A) (P : A → Type 0) → IfSome (slice_get r 0) P → r ≡ a ∷ rest → P a
+pub of_first :
+    {A : Type 0} (r : List A) (a : A) (rest : List A) (P : A → Type 0) → IfSome (slice_get r 0) P
+    → r ≡ a ∷ rest → P a
 of_first r a rest P h e = subst (λ xs. IfSome (slice_get xs 0) P) e h
 
 -- a directory is dropped as well after one of its slots is gone
-pub outside_less : (m : Slots) (d : Gfid) (k : Entry) → k.0 ≡ d → slots_outside (remove m k) d ≡ slots_outside m d
+pub outside_less :
+    (m : Slots) (d : Gfid) (k : Entry) → k.0 ≡ d → slots_outside (remove m k) d ≡ slots_outside m d
 outside_less m d k is =
     same_map entry_total entry_exact (slots_outside (remove m k) d) (slots_outside m d) (λ q.
     get-outside (remove m k) d q
@@ -116,11 +128,14 @@ is_le-least : (xs : List ℕ) → is_le (slice_cmp nat_cmp [] xs) ≡ true
 is_le-least [] = refl
 is_le-least (x ∷ xs) = refl
 
-in_dir_then : (d : Gfid) (q : EntryKey) (x : Ordering) → q.dir ≡ d → ordering_then (gfid_cmp d q.dir) x ≡ x
+in_dir_then :
+    (d : Gfid) (q : EntryKey) (x : Ordering) → q.dir ≡ d → ordering_then (gfid_cmp d q.dir) x ≡ x
 in_dir_then d q x is = ap (λ r. ordering_then r x) (ap (gfid_cmp d) is ∙ tied_itself gfid_total d)
 
 -- a key of the directory is in the range where its name is above
-from_name : (d : Gfid) (after : Option (List ℕ)) (q : EntryKey) → q.dir ≡ d → is_from_start key_cmp (start_of d after) q ≡ is_name_above after q.name
+from_name :
+    (d : Gfid) (after : Option (List ℕ)) (q : EntryKey) → q.dir ≡ d
+    → is_from_start key_cmp (start_of d after) q ≡ is_name_above after q.name
 from_name d None q is = ap is_le (in_dir_then d q (slice_cmp nat_cmp [] q.name) is) ∙ is_le-least q.name
 from_name d (Some a) q is = ap is_lt (in_dir_then d q (slice_cmp nat_cmp a q.name) is)
 
@@ -135,7 +150,10 @@ lt_less Equal x h n = absurd (n refl)
 lt_less Greater x h n = cc
 
 -- a key of another directory in the range comes after the directory
-from_other : (d : Gfid) (after : Option (List ℕ)) (q : EntryKey) → is_from_start key_cmp (start_of d after) q ≡ true → same_gfid d q.dir ≡ false → gfid_cmp d q.dir ≡ Less
+from_other :
+    (d : Gfid) (after : Option (List ℕ)) (q : EntryKey)
+    → is_from_start key_cmp (start_of d after) q ≡ true → same_gfid d q.dir ≡ false
+    → gfid_cmp d q.dir ≡ Less
 from_other d None q h other = le_less (gfid_cmp d q.dir) (slice_cmp nat_cmp [] q.name) h (λ e. let t = sym other ∙ (exact_gfid d q.dir).1 (gfid_exact d q.dir e) in cc)
 from_other d (Some a) q h other = lt_less (gfid_cmp d q.dir) (slice_cmp nat_cmp a q.name) h (λ e. let t = sym other ∙ (exact_gfid d q.dir).1 (gfid_exact d q.dir e) in cc)
 
@@ -150,7 +168,9 @@ not_equal Equal e = cc
 not_equal Greater e = cc
 
 -- so are the keys after it
-past_dir : (d k q : Gfid) (x : Ordering) → gfid_cmp d k ≡ Less → ordering_then (gfid_cmp k q) x ≡ Less → same_gfid d q ≡ false
+past_dir :
+    (d k q : Gfid) (x : Ordering) → gfid_cmp d k ≡ Less → ordering_then (gfid_cmp k q) x ≡ Less
+    → same_gfid d q ≡ false
 past_dir d k q x less h =
     sym (gfid_ties d q) ∙ not_equal (gfid_cmp d q)
     (elim (gfid_cmp k q) as (λ r. gfid_cmp k q ≡ r → ordering_then r x ≡ Less → gfid_cmp d q ≡ Less) [
@@ -164,7 +184,10 @@ abbrev pub front : {A : Type 0} → (A → Bool) → List A → List A
 front p [] = []
 front p (x ∷ xs) = cond (p x) (x ∷ front p xs) []
 
-one_more : {A : Type 0} (p : A → Bool) (e : A) (rest passed : List A) (b f a : Bool) → p e ≡ b → passed ≡ front p rest → (b ≡ true → f ≡ a) → (b ≡ false → f ≡ true → passed ≡ []) → cond (b && a) (e ∷ passed) passed ≡ front p (cond (f && true) (e ∷ rest) rest)
+one_more :
+    {A : Type 0} (p : A → Bool) (e : A) (rest passed : List A) (b f a : Bool) → p e ≡ b
+    → passed ≡ front p rest → (b ≡ true → f ≡ a) → (b ≡ false → f ≡ true → passed ≡ [])
+    → cond (b && a) (e ∷ passed) passed ≡ front p (cond (f && true) (e ∷ rest) rest)
 one_more p e rest passed true true true pe same fa none = ap (λ xs. e ∷ xs) same ∙ sym (ap (λ b. cond b (e ∷ front p rest) []) pe)
 one_more p e rest passed true true false pe same fa none = let x = fa refl in cc
 one_more p e rest passed true false true pe same fa none = let x = fa refl in cc
@@ -172,7 +195,9 @@ one_more p e rest passed true false false pe same fa none = same
 one_more p e rest passed false true a pe same fa none = none refl refl ∙ sym (ap (λ b. cond b (e ∷ front p rest) []) pe)
 one_more p e rest passed false false a pe same fa none = same
 
-both_tests : {A : Type 0} (q : A → Bool) (x : A) (ys : List A) (b : Bool) → cond (b && q x) (x ∷ filter q ys) (filter q ys) ≡ filter q (cond b (x ∷ ys) ys)
+both_tests :
+    {A : Type 0} (q : A → Bool) (x : A) (ys : List A) (b : Bool)
+    → cond (b && q x) (x ∷ filter q ys) (filter q ys) ≡ filter q (cond b (x ∷ ys) ys)
 both_tests q x ys true = refl
 both_tests q x ys false = refl
 
@@ -201,7 +226,9 @@ module _ {X : Type 0} (d : Gfid) (after : Option (List ℕ)) where
       (λ other from. none_later e.0 es (from_other d after e.0 from other) h.0)
 
 -- what passes two tests
-pub filter_both : {A : Type 0} (p q r : A → Bool) → ((x : A) → r x ≡ (p x && q x)) → (xs : List A) → filter r xs ≡ filter q (filter p xs)
+pub filter_both :
+    {A : Type 0} (p q r : A → Bool) → ((x : A) → r x ≡ (p x && q x)) → (xs : List A)
+    → filter r xs ≡ filter q (filter p xs)
 filter_both p q r h [] = refl
 filter_both p q r h (x ∷ xs) =
     ap (λ b. cond b (x ∷ filter r xs) (filter r xs)) (h x)
@@ -223,14 +250,17 @@ abbrev pub is_seen_entry : EntryKey × KeptSlot → Bool
 is_seen_entry e = is_visible (slot_of e.1)
 
 -- the names of a page, and the slots that are saved, stand from the first name of the range on
-pub page_together : (d : Gfid) (after : Option (List ℕ)) (es : List (EntryKey × KeptSlot)) → IsStrictlySortedBy key_cmp (keys_of es)
+pub page_together :
+    (d : Gfid) (after : Option (List ℕ)) (es : List (EntryKey × KeptSlot))
+    → IsStrictlySortedBy key_cmp (keys_of es)
     → filter (is_on_page d after) (shown_slots es) ≡ shown_slots (filter is_seen_entry (front (in_dir d after) (filter (in_range d after) es)))
 page_together d after es h =
     filter-map (is_on_page d after) (λ (e : EntryKey × KeptSlot). (entry_at e.0, slot_of e.1)) es
     ∙ ap shown_slots (filter_both (is_after d after) is_seen_entry (λ e. is_on_page d after (entry_at e.0, slot_of e.1)) (λ e. reorder (same_gfid d e.0.dir) (is_visible (slot_of e.1)) (is_name_above after e.0.name)) es
     ∙ ap (filter is_seen_entry) (stands_together d after es h))
 
-pub dir_together : (d : Gfid) (es : List (EntryKey × KeptSlot)) → IsStrictlySortedBy key_cmp (keys_of es)
+pub dir_together :
+    (d : Gfid) (es : List (EntryKey × KeptSlot)) → IsStrictlySortedBy key_cmp (keys_of es)
     → filter (λ (e : Entry × Slot). same_gfid d e.0.0) (shown_slots es) ≡ shown_slots (front (in_dir d None) (filter (in_range d None) es))
 dir_together d es h =
     filter-map (λ (e : Entry × Slot). same_gfid d e.0.0) (λ (e : EntryKey × KeptSlot). (entry_at e.0, slot_of e.1)) es
@@ -241,5 +271,8 @@ not_same true h = cc
 not_same false h = refl
 
 -- at the first name of another directory
-pub ends_here : (d : Gfid) (after : Option (List ℕ)) (e : EntryKey × KeptSlot) (rest es : List (EntryKey × KeptSlot)) → es ≡ e ∷ rest → not (same_gfid d e.0.dir) ≡ true → front (in_dir d after) es ≡ []
+pub ends_here :
+    (d : Gfid) (after : Option (List ℕ)) (e : EntryKey × KeptSlot)
+    (rest es : List (EntryKey × KeptSlot))
+    → es ≡ e ∷ rest → not (same_gfid d e.0.dir) ≡ true → front (in_dir d after) es ≡ []
 ends_here d after e rest es is other = ap (front (in_dir d after)) is ∙ ap (λ b. cond b (e ∷ front (in_dir d after) rest) []) (not_same (same_gfid d e.0.dir) other)

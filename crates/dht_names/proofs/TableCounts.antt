@@ -48,7 +48,9 @@ module _ (m : Slots) (t t1 : Tallies) (h : IsCounted m t) (same : KeepsCounts t 
           (subst (λ (s : SlotShown). Recounts e.0 s (slot_shown bare) t1 t2) was (subst (λ (s : SlotShown). Recounts e.0 old s t1 t2) is r)))
 
 -- no slots count for nothing
-pub none_counted : (m : Slots) (t : Tallies) → m ≡ empty → ((g : Gfid) → (k : Kind) → counter t g k ≡ 0) → IsCounted m t
+pub none_counted :
+    (m : Slots) (t : Tallies) → m ≡ empty → ((g : Gfid) → (k : Kind) → counter t g k ≡ 0)
+    → IsCounted m t
 none_counted m t e none = λ g k.
     let short = count_by-le-length (counts_for k g) (entries m) in
     let size = sym (len-entries m) ∙ ap (λ (x : Slots). len x) e ∙ len-empty entry_cmp Slot in
@@ -60,18 +62,25 @@ none_counted m t e none = λ g k.
 is_for-itself : (g : Gfid) → is_for g (Some g) ≡ true
 is_for-itself g = (exact_gfid g g).1 refl
 
-covered : (m : Slots) (e : Entry) (t : Tallies) (j k : Kind) (g : Gfid) → IsCounted m t → counted j e.0 (slot_shown (slot_in m e)) ≡ Some g → IsSome (get t g)
+covered :
+    (m : Slots) (e : Entry) (t : Tallies) (j k : Kind) (g : Gfid) → IsCounted m t
+    → counted j e.0 (slot_shown (slot_in m e)) ≡ Some g → IsSome (get t g)
 covered m e t j k g h is =
     let one = ap (λ o. one_if (is_for g o)) is ∙ ap one_if (is_for-itself g) in
     let there = slot_is_counted m e t h g j in
     has_room t g j (omega (arith, one, there))
 
-covered_if : (m : Slots) (e : Entry) (t : Tallies) (k : Kind) (o : Option Gfid) → IsCounted m t → IfSome o (λ g. (j : Kind) × (counted j e.0 (slot_shown (slot_in m e)) ≡ Some g)) → IfSome o (λ g. IsSome (get t g))
+covered_if :
+    (m : Slots) (e : Entry) (t : Tallies) (k : Kind) (o : Option Gfid) → IsCounted m t
+    → IfSome o (λ g. (j : Kind) × (counted j e.0 (slot_shown (slot_in m e)) ≡ Some g))
+    → IfSome o (λ g. IsSome (get t g))
 covered_if m e t k None h c = tt
 covered_if m e t k (Some g) h c = covered m e t c.0 k g h c.1
 
 -- a slot has room for each gfid that it covers
-pub covered_room : (m : Slots) (e : Entry) (t : Tallies) (old new : SlotShown) → IsCounted m t → old ≡ slot_shown (slot_in m e) → Covers e.0 old new → HasAll t e.0 new
+pub covered_room :
+    (m : Slots) (e : Entry) (t : Tallies) (old new : SlotShown) → IsCounted m t
+    → old ≡ slot_shown (slot_in m e) → Covers e.0 old new → HasAll t e.0 new
 covered_room m e t old new h was c = λ k. covered_if m e t k (counted k e.0 new) h (subst (λ (s : SlotShown). IfSome (counted k e.0 new) (λ g. (j : Kind) × (counted j e.0 s ≡ Some g))) was (c k))
 
 pub covers_by : (d : Gfid) (a b a2 b2 : SlotShown) → a ≡ a2 → b ≡ b2 → Covers d a2 b2 → Covers d a b
@@ -81,12 +90,17 @@ or_true : (b : Bool) → (b || true) ≡ true
 or_true true = refl
 or_true false = refl
 
-seen_by : (d : Gfid) (b c : Bool) → (b ≡ true → c ≡ true) → IfSome (cond b (Some d) None) (λ g. cond c (Some d) None ≡ Some g)
+seen_by :
+    (d : Gfid) (b c : Bool) → (b ≡ true → c ≡ true)
+    → IfSome (cond b (Some d) None) (λ g. cond c (Some d) None ≡ Some g)
 seen_by d false c h = tt
 seen_by d true c h = ap (λ x. cond x (Some d) None) (h refl)
 
 -- ways in which a slot counts alike
-alike : (d : Gfid) (j : Kind) (old : SlotShown) (o : Option Gfid) → IfSome o (λ g. counted j d old ≡ Some g) → IfSome o (λ g. (j : Kind) × (counted j d old ≡ Some g))
+alike :
+    (d : Gfid) (j : Kind) (old : SlotShown) (o : Option Gfid)
+    → IfSome o (λ g. counted j d old ≡ Some g)
+    → IfSome o (λ g. (j : Kind) × (counted j d old ≡ Some g))
 alike d j old None h = tt
 alike d j old (Some g) h = (j, h)
 
@@ -94,7 +108,9 @@ same_way : (o : Option Gfid) → IfSome o (λ g. o ≡ Some g)
 same_way None = tt
 same_way (Some g) = refl
 
-seen_alike : (d : Gfid) (old new : SlotShown) → (is_seen new ≡ true → is_seen old ≡ true) → IfSome (counted Visible d new) (λ g. (j : Kind) × (counted j d old ≡ Some g))
+seen_alike :
+    (d : Gfid) (old new : SlotShown) → (is_seen new ≡ true → is_seen old ≡ true)
+    → IfSome (counted Visible d new) (λ g. (j : Kind) × (counted j d old ≡ Some g))
 seen_alike d old new h = alike d Visible old (counted Visible d new) (seen_by d (is_seen new) (is_seen old) h)
 
 seen_or : (b c : Bool) → c ≡ true → (b || c) ≡ true
@@ -112,7 +128,8 @@ or_first : (b c : Bool) → (b || false) ≡ true → (b || c) ≡ true
 or_first true c e = refl
 or_first false c e = cc
 
-pub covers_no_standby : (d : Gfid) (p : Slot) → Covers d (slot_shown p) (slot_shown (without_standby p))
+pub covers_no_standby :
+    (d : Gfid) (p : Slot) → Covers d (slot_shown p) (slot_shown (without_standby p))
 covers_no_standby d p Visible = seen_alike d (slot_shown p) (slot_shown (without_standby p)) (or_first (is_taken (option_map main_shown p.main)) (is_some p.standby))
 covers_no_standby d p Named = alike d Named (slot_shown p) (counted Named d (slot_shown p)) (same_way (counted Named d (slot_shown p)))
 covers_no_standby d p Marked = alike d Marked (slot_shown p) (counted Marked d (slot_shown p)) (same_way (counted Marked d (slot_shown p)))
@@ -120,7 +137,9 @@ covers_no_standby d p Readied = tt
 covers_no_standby d p Copied = tt
 
 -- a linkto counts for nothing
-linkto_covered : (d : Gfid) (p : Slot) (value : List ℕ) → Covers d (slot_shown p) (slot_shown (with_main p (Linkto value)))
+linkto_covered :
+    (d : Gfid) (p : Slot) (value : List ℕ)
+    → Covers d (slot_shown p) (slot_shown (with_main p (Linkto value)))
 linkto_covered d p value Visible = seen_alike d (slot_shown p) (slot_shown (with_main p (Linkto value))) (seen_or (is_taken (option_map main_shown p.main)) (is_some p.standby))
 linkto_covered d p value Named = tt
 linkto_covered d p value Marked = tt
@@ -128,13 +147,15 @@ linkto_covered d p value Readied = alike d Readied (slot_shown p) (counted Readi
 linkto_covered d p value Copied = alike d Copied (slot_shown p) (counted Copied d (slot_shown p)) (same_way (counted Copied d (slot_shown p)))
 
 -- the same file's name, marked or not
-file_seen : (f : Gfid) (m : Option Main) → is_file f m ≡ true → is_taken (option_map main_shown m) ≡ true
+file_seen :
+    (f : Gfid) (m : Option Main) → is_file f m ≡ true → is_taken (option_map main_shown m) ≡ true
 file_seen f None h = cc
 file_seen f (Some (Dir g)) h = refl
 file_seen f (Some (File g over)) h = refl
 file_seen f (Some (Linkto value)) h = cc
 
-file_named : (f : Gfid) (m : Option Main) → is_file f m ≡ true → named (option_map main_shown m) ≡ Some f
+file_named :
+    (f : Gfid) (m : Option Main) → is_file f m ≡ true → named (option_map main_shown m) ≡ Some f
 file_named f None h = cc
 file_named f (Some (Dir g)) h = cc
 file_named f (Some (File g over)) h = ap Some (sym ((exact_gfid f g).0 h))
@@ -156,7 +177,9 @@ module _ (d : Gfid) (p : Slot) (f : Gfid) where
   file_covered over h Readied = alike d Readied (slot_shown p) (counted Readied d (slot_shown p)) (same_way (counted Readied d (slot_shown p)))
   file_covered over h Copied = alike d Copied (slot_shown p) (counted Copied d (slot_shown p)) (same_way (counted Copied d (slot_shown p)))
 
-pub covers_main : (d : Gfid) (p : Slot) (m : Main) → keeps_main p.main m ≡ true → Covers d (slot_shown p) (slot_shown (with_main p m))
+pub covers_main :
+    (d : Gfid) (p : Slot) (m : Main) → keeps_main p.main m ≡ true
+    → Covers d (slot_shown p) (slot_shown (with_main p m))
 covers_main d p (Dir g) h = cc
 covers_main d p (File f over) h = file_covered d p f over h
 covers_main d p (Linkto value) h = linkto_covered d p value
@@ -175,11 +198,16 @@ copy_is_to_be f (Some (StandLink g)) h = cc
 copy_is_to_be f (Some (Copy g)) h = h
 
 -- a name that becomes that of its file to be
-settled : (d : Gfid) (f : Gfid) (m : Option Main) (x : Standby) → is_to_be f (Some x) ≡ true → (j : Kind) × (counted j d (slot_shown (record { main = m; standby = Some x })) ≡ Some f)
+settled :
+    (d : Gfid) (f : Gfid) (m : Option Main) (x : Standby) → is_to_be f (Some x) ≡ true
+    → (j : Kind) × (counted j d (slot_shown (record { main = m; standby = Some x })) ≡ Some f)
 settled d f m (StandLink g) h = (Readied, ap Some (sym ((exact_gfid f g).0 (or_only (same_gfid f g) h))))
 settled d f m (Copy g) h = (Copied, ap Some (sym ((exact_gfid f g).0 h)))
 
-by_standby : (d : Gfid) (f : Gfid) (m : Option Main) (s : Option Standby) → is_to_be f s ≡ true → Covers d (slot_shown (record { main = m; standby = s })) (slot_shown (with_main bare (File f None)))
+by_standby :
+    (d : Gfid) (f : Gfid) (m : Option Main) (s : Option Standby) → is_to_be f s ≡ true
+    → Covers d (slot_shown (record { main = m; standby = s }))
+    (slot_shown (with_main bare (File f None)))
 by_standby d f m None h k = cc
 by_standby d f m (Some x) h Visible = seen_alike d (slot_shown (record { main = m; standby = Some x })) (slot_shown (with_main bare (File f None))) (λ _. or_true (is_taken (option_map main_shown m)))
 by_standby d f m (Some x) h Named = settled d f m x h
@@ -187,7 +215,9 @@ by_standby d f m (Some x) h Marked = tt
 by_standby d f m (Some x) h Readied = tt
 by_standby d f m (Some x) h Copied = tt
 
-pub covers_settled : (d : Gfid) (p : Slot) (f : Gfid) → is_to_be f p.standby ≡ true → Covers d (slot_shown p) (slot_shown (with_main bare (File f None)))
+pub covers_settled :
+    (d : Gfid) (p : Slot) (f : Gfid) → is_to_be f p.standby ≡ true
+    → Covers d (slot_shown p) (slot_shown (with_main bare (File f None)))
 covers_settled d p f h = by_standby d f p.main p.standby h
 
 pub is_there : (p : Slot) (f : Gfid) → is_to_be f p.standby ≡ true → is_some p.standby ≡ true
@@ -212,7 +242,8 @@ named_is f (Some (Dir g)) = refl
 named_is f (Some (File g over)) = refl
 named_is f (Some (Linkto value)) = refl
 
-marked_is : (f : Gfid) (m : Option Main) → is_contested f m ≡ is_for f (marked (option_map main_shown m))
+marked_is :
+    (f : Gfid) (m : Option Main) → is_contested f m ≡ is_for f (marked (option_map main_shown m))
 marked_is f None = refl
 marked_is f (Some (Dir g)) = refl
 marked_is f (Some (File g None)) = refl
@@ -242,7 +273,8 @@ in_and_seen : (g d : Gfid) (b : Bool) → (same_gfid g d && b) ≡ is_for g (con
 in_and_seen g d true = and_true (same_gfid g d)
 in_and_seen g d false = and_false (same_gfid g d)
 
-visible_is : (g : Gfid) (e : Entry × Slot) → (same_gfid g e.0.0 && is_visible e.1) ≡ counts_for Visible g e
+visible_is :
+    (g : Gfid) (e : Entry × Slot) → (same_gfid g e.0.0 && is_visible e.1) ≡ counts_for Visible g e
 visible_is g e = ap (λ b. same_gfid g e.0.0 && (b || is_some e.1.standby)) (taken_is e.1.main) ∙ in_and_seen g e.0.0 (is_seen (slot_shown e.1))
 
 module _ (m : Slots) (t : Tallies) (h : IsCounted m t) (f : Gfid) where

@@ -85,7 +85,8 @@ is_to_be f p = is_standlink f p || is_copy f p
 
 -- each gfid for which the new slot counts is one for which the old slot does
 abbrev pub Covers : Gfid → SlotShown → SlotShown → Type 0
-Covers d old new = (k : Kind) → IfSome (counted k d new) (λ g. (j : Kind) × (counted j d old ≡ Some g))
+Covers d old new =
+    (k : Kind) → IfSome (counted k d new) (λ g. (j : Kind) × (counted j d old ≡ Some g))
 
 -- ---- what is kept
 
@@ -107,7 +108,8 @@ with_count Readied n t = record t { readied = n }
 with_count Copied n t = record t { copied = n }
 
 abbrev pub is_unused : Tally → Bool
-is_unused t = (t.visible == 0) && (t.named == 0) && (t.marked == 0) && (t.readied == 0) && (t.copied == 0)
+is_unused t =
+    (t.visible == 0) && (t.named == 0) && (t.marked == 0) && (t.readied == 0) && (t.copied == 0)
 
 abbrev pub Tallies : Type 0
 Tallies = FinMap gfid_cmp Tally
@@ -141,13 +143,16 @@ KeepsCounts m n = (g : Gfid) → (k : Kind) → counter n g k ≡ counter m g k
 
 -- one slot more, or less, counts so for this gfid, if there is one
 abbrev pub Raises : Option Gfid → Kind → Tallies → Tallies → Type 0
-Raises o k m n = (g : Gfid) → (j : Kind) → counter n g j ≡ counter m g j + one_if (is_for g o && same_kind j k)
+Raises o k m n =
+    (g : Gfid) → (j : Kind) → counter n g j ≡ counter m g j + one_if (is_for g o && same_kind j k)
 
 abbrev pub Lowers : Option Gfid → Kind → Tallies → Tallies → Type 0
-Lowers o k m n = (g : Gfid) → (j : Kind) → counter n g j + one_if (is_for g o && same_kind j k) ≡ counter m g j
+Lowers o k m n =
+    (g : Gfid) → (j : Kind) → counter n g j + one_if (is_for g o && same_kind j k) ≡ counter m g j
 
 -- ---- what is kept is right
 
 -- each gfid is counted as often as slots count for it
 abbrev pub IsCounted : Slots → Tallies → Type 0
-IsCounted slots m = (g : Gfid) → (k : Kind) → counter m g k ≡ count_by (counts_for k g) (entries slots)
+IsCounted slots m =
+    (g : Gfid) → (k : Kind) → counter m g k ≡ count_by (counts_for k g) (entries slots)

@@ -10,7 +10,8 @@ use Rattle.dht_brick.specs.declared.requests.NameRequest.{NameRequest}
 use Rattle.dht_brick.specs.declared.requests.NameRequest.TheVariants.{Orphans}
 
 -- the reply and what is left are of this outcome, and the bricks' names stay
-pub record Meets (outcome : Store → Outcome Store) (t : Tables) (f : Files) (r : Reply) (t2 : Tables) (f2 : Files) : Type 0 where
+pub record Meets (outcome : Store → Outcome Store) (t : Tables) (f : Files) (r : Reply)
+    (t2 : Tables) (f2 : Files) : Type 0 where
   pub served : Serves (outcome (store_of t f)) (store_of t f) r (store_of t2 f2)
   pub bricks : t2.bricks ≡ t.bricks
 

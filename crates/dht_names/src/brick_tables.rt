@@ -50,8 +50,8 @@ fn linkto(volume: &Volume, brick: BrickNo) -> KeptMain
     KeptMain::Short(terminated(name_of(volume, brick)))
 }
 
-/// The directory records and slots of a brick in memory, and the volume that it knows, by whose names
-/// it writes and reads linkto values. Contracts speak of `tables_in`.
+/// The directory records and slots of a brick in memory, and the volume that it knows, by whose
+/// names it writes and reads linkto values. Contracts speak of `tables_in`.
 #[derive(Drop)]
 pub struct Tables {
     pub(crate) alloc: Global,

@@ -80,7 +80,8 @@ impl Tables {
         value: &Option<LayoutValue>,
     ) -> Result<(), AllocError>
         ensures ok { OnOk result (tables_in self.new ≡ record (tables_in self.old) {
-          dirs = insert (tables_in self.old).dirs made (record { place = Some key.now; depth = depth; value = value.now });
+          dirs = insert (tables_in self.old).dirs made
+              (record { place = Some key.now; depth = depth; value = value.now });
           slots = put_slot (tables_in self.old).slots (entry_at key.now)
               (with_main (slot_in (tables_in self.old).slots (entry_at key.now)) (Main.Dir made));
         }) }
@@ -104,7 +105,8 @@ impl Tables {
     /// Takes away the copy of a directory that stands at a name, if nothing stands in it.
     pub(crate) fn drop_dir(&mut self, key: &EntryKey, dir: Gfid) -> Reply
         ensures { (f : Files) → Meets (λ s. if_empty (is_occupied s.slots dir)
-            (slot_change (tables_in self.old).bricks (NameRequest.DropDir key.now.dir key.now.name dir) s (entry_at key.now)))
+            (slot_change (tables_in self.old).bricks
+            (NameRequest.DropDir key.now.dir key.now.name dir) s (entry_at key.now)))
             (tables_in self.old) f result (tables_in self.new) f }
     {
         let parts = self.slots.parts(key);
@@ -206,8 +208,8 @@ impl Tables {
         }
     }
 
-    /// Gives a name to the first file in place of the second, and says how many links the second has
-    /// left.
+    /// Gives a name to the first file in place of the second, and says how many links the second
+    /// has left.
     pub(crate) fn link_over<F: FileRecords>(
         &mut self,
         key: &EntryKey,
@@ -300,8 +302,8 @@ impl Tables {
         Reply::Ok(Given::Nothing)
     }
 
-    /// Takes the marked name of a file away, leaves a linkto to the brick for which it was marked, and
-    /// says how many links are left.
+    /// Takes the marked name of a file away, leaves a linkto to the brick for which it was marked,
+    /// and says how many links are left.
     pub(crate) fn swap(&mut self, key: &EntryKey, file: Gfid, value: &Bytes) -> Reply
         ensures change { ChangesAlone (NameRequest.Swap key.now.dir key.now.name file value.now)
             (tables_in self.old) result (tables_in self.new) }

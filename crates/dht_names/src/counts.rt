@@ -1,5 +1,5 @@
-//! For how many slots each gfid stands, so that no request goes over all slots to tell how many links
-//! a file has, or whether a directory is empty.
+//! For how many slots each gfid stands, so that no request goes over all slots to tell how many
+//! links a file has, or whether a directory is empty.
 
 ghost use Rattle.std.specs.Prelude.{◌≡◌, ◌≤◌, ◌<◌, ◌+◌, ◌^◌, IfSome, IsSome, OnOk};
 ghost use Rattle.std.specs.FinMap.{get};
@@ -145,8 +145,8 @@ impl Tally {
 
 /// How many slots count for each gfid, in each way. Contracts speak of `counter`.
 ///
-/// What is counted for a file and what for a directory stand side by side, so that a file whose copy
-/// becomes the file needs no memory to be counted as one.
+/// What is counted for a file and what for a directory stand side by side, so that a file whose
+/// copy becomes the file needs no memory to be counted as one.
 #[derive(Drop)]
 pub(crate) struct Counts {
     tallies: BTreeMap<Gfid, Tally>,

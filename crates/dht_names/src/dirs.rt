@@ -79,8 +79,8 @@ impl DirTable {
         self.kept.contains_key(&dir)
     }
 
-    /// Gives a directory this record, and gives back the one that it had. It takes memory only where
-    /// it had none.
+    /// Gives a directory this record, and gives back the one that it had. It takes memory only
+    /// where it had none.
     pub(crate) fn put(&mut self, dir: Gfid, new: DirRecord) -> Result<Option<DirRecord>, AllocError>
         ensures old { IfOk result (λ old. old ≡ get (dirs_in self.old) dir) }
         ensures ok { OnOk result (dirs_in self.new ≡ insert (dirs_in self.old) dir new) }

@@ -16,8 +16,8 @@ use std::alloc::{AllocError, Global};
 /// The main part of a slot.
 ///
 /// A linkto value that names a brick has 65 bytes at most, and a request that puts one in the place
-/// of a file is to take no memory. So a value of up to 255 bytes is kept in place, and a longer one,
-/// which names no brick, on the heap.
+/// of a file is to take no memory. So a value of up to 255 bytes is kept in place, and a longer
+/// one, which names no brick, on the heap.
 #[derive(Drop)]
 pub(crate) enum KeptMain {
     Dir(Gfid),

@@ -39,8 +39,8 @@ impl Tables {
         })))
     }
 
-    /// Puts a saved record in place of a directory's record and slots, or takes these away where none
-    /// is given. Where there is no memory for it, nothing changes.
+    /// Puts a saved record in place of a directory's record and slots, or takes these away where
+    /// none is given. Where there is no memory for it, nothing changes.
     pub fn restore(&mut self, dir: Gfid, saved: Option<&Saved>) -> Result<(), AllocError>
         requires { IfSome (option_copied saved) (IsDirOf dir) }
         ensures ok { OnOk result (tables_in self.new

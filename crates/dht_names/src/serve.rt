@@ -27,8 +27,9 @@ fn slot_key(request: &NameRequest) -> EntryKey
 
 impl Tables {
     /// Serves one request about directories and names, beside these file records. It carries the
-    /// request out or refuses it by the request's row. Or it has no memory for it, and does nothing:
-    /// not where the request takes away a linkto or a mark, swaps a name, or settles a readied one.
+    /// request out or refuses it by the request's row. Or it has no memory for it, and does
+    /// nothing: not where the request takes away a linkto or a mark, swaps a name, or settles a
+    /// readied one.
     pub fn serve<F: FileRecords>(&mut self, request: &NameRequest, files: &mut F) -> Reply
         requires { NameMayBeSent (length (tables_in self.old).bricks) request.now }
         ensures row { MeetsRow request.now (tables_in self.old) (F.files files.old) result

@@ -104,7 +104,8 @@ impl SlotTable {
         self.counts.recount(key.dir, &old, &new);
     }
 
-    /// Gives a slot this main part. It takes memory only where there was no slot, or none of its file.
+    /// Gives a slot this main part. It takes memory only where there was no slot, or none of its
+    /// file.
     pub(crate) fn put_main(&mut self, key: &EntryKey, main: KeptMain) -> Result<(), AllocError>
         ensures ok { OnOk result (slots_in self.new
             ≡ put_slot (slots_in self.old) (entry_at key.now)
@@ -121,7 +122,8 @@ impl SlotTable {
         )
     }
 
-    /// Gives a slot that is there this main part, which is a linkto or the name of the file that has it.
+    /// Gives a slot that is there this main part, which is a linkto or the name of the file that
+    /// has it.
     pub(crate) fn replace_main(&mut self, key: &EntryKey, main: KeptMain)
         requires there { is_bare (slot_in (slots_in self.old) (entry_at key.now)) ≡ false }
         requires known { keeps_main (slot_in (slots_in self.old) (entry_at key.now)).main

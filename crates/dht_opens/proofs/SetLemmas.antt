@@ -23,7 +23,9 @@ use Rattle.dht_opens.specs.Opens.{set_of}
 pub registration_total : IsTotalOrder registration_cmp
 registration_total = then_total (on_total (λ r. r.file) gfid_total) (then_total (on_total (λ r. r.client.0) nat_cmp_total) (on_total (λ r. r.call.0) nat_cmp_total))
 
-first_tie : (a b : Ordering) → Rattle.std.specs.Ordering.ordering_then a b ≡ Equal → (a ≡ Equal) × (b ≡ Equal)
+first_tie :
+    (a b : Ordering) → Rattle.std.specs.Ordering.ordering_then a b ≡ Equal
+    → (a ≡ Equal) × (b ≡ Equal)
 first_tie Less b h = cc
 first_tie Equal b h = (refl, h)
 first_tie Greater b h = cc
@@ -67,7 +69,9 @@ firsts-keys_of : {K X : Type 0} (es : List (K × X)) → map (λ e. e.0) es ≡ 
 firsts-keys_of [] = refl
 firsts-keys_of (e ∷ es) = ap (λ xs. e.0 ∷ xs) (firsts-keys_of es)
 
-find-marked : {K : Type 0} (R : K → K → Ordering) (ks : List K) (q : K) → find R q (map (λ k. (k, tt)) ks) ≡ mark (list_any (is_at (R q)) ks)
+find-marked :
+    {K : Type 0} (R : K → K → Ordering) (ks : List K) (q : K)
+    → find R q (map (λ k. (k, tt)) ks) ≡ mark (list_any (is_at (R q)) ks)
 find-marked R [] q = refl
 find-marked R (k ∷ ks) q = ap (cond (eq_by_cmp R q k) (Some tt)) (find-marked R ks q) ∙ mark-or (eq_by_cmp R q k) (list_any (is_at (R q)) ks)
 

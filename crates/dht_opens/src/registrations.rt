@@ -60,8 +60,8 @@ impl Opens {
         }
     }
 
-    /// Registers a file as opened by this call of this client. `Sealed` comes exactly where the file
-    /// is sealed. A fault leaves everything as it was.
+    /// Registers a file as opened by this call of this client. `Sealed` comes exactly where the
+    /// file is sealed. A fault leaves everything as it was.
     pub fn register(&mut self, file: Gfid, client: ClientNo, call: CallNo) -> Result<(), OpenFault>
         ensures { Registers (registration file client call) (opens_in self.old) result
             (opens_in self.new) }
@@ -75,8 +75,8 @@ impl Opens {
         }
     }
 
-    /// Takes back the registration of a file by this call of this client, if there is one, and counts
-    /// those that the file has left. It takes no memory.
+    /// Takes back the registration of a file by this call of this client, if there is one, and
+    /// counts those that the file has left. It takes no memory.
     pub fn unregister(&mut self, file: Gfid, client: ClientNo, call: CallNo) -> u64
         ensures gone { opens_in self.new
             ≡ unregistered (opens_in self.old) (registration file client call) }

@@ -29,7 +29,9 @@ apart : (a b : Gfid) → a ≢ b → same_gfid a b ≡ false
 apart a b ne = false_from_ne_true (same_gfid a b) (λ h. ne ((exact_gfid a b).0 h))
 
 -- what is found behind a list in which nothing is
-lookup_last : {K X : Type 0} (test : K → Bool) (es : List (K × X)) (k : K) (v : X) → is_some (lookup test es) ≡ false → test k ≡ true → lookup test (es ++ (k, v) ∷ []) ≡ Some v
+lookup_last :
+    {K X : Type 0} (test : K → Bool) (es : List (K × X)) (k : K) (v : X)
+    → is_some (lookup test es) ≡ false → test k ≡ true → lookup test (es ++ (k, v) ∷ []) ≡ Some v
 lookup_last test [] k v h t = ap (λ b. cond b (Some v) None) t
 lookup_last test (e ∷ es) k v h t = by (test e.0) h (λ n. lookup_last test es k v n t)
   where
@@ -38,12 +40,16 @@ lookup_last test (e ∷ es) k v h t = by (test e.0) h (λ n. lookup_last test es
     by false h rest = rest h
 
 -- a key that does not pass changes no search
-lookup_before : {K X : Type 0} (test : K → Bool) (es : List (K × X)) (k : K) (v : X) → test k ≡ false → lookup test (es ++ (k, v) ∷ []) ≡ lookup test es
+lookup_before :
+    {K X : Type 0} (test : K → Bool) (es : List (K × X)) (k : K) (v : X) → test k ≡ false
+    → lookup test (es ++ (k, v) ∷ []) ≡ lookup test es
 lookup_before test [] k v t = ap (λ b. cond b (Some v) None) t
 lookup_before test (e ∷ es) k v t = ap (cond (test e.0) (Some e.1)) (lookup_before test es k v t)
 
 -- what is not in a list is not behind its first entry
-absent_behind : {K X : Type 0} (test : K → Bool) (es : List (K × X)) → is_some (lookup test es) ≡ false → is_some (lookup test (drop 1 es)) ≡ false
+absent_behind :
+    {K X : Type 0} (test : K → Bool) (es : List (K × X)) → is_some (lookup test es) ≡ false
+    → is_some (lookup test (drop 1 es)) ≡ false
 absent_behind test [] h = h
 absent_behind test (e ∷ es) h = by (test e.0) h
   where
@@ -51,7 +57,9 @@ absent_behind test (e ∷ es) h = by (test e.0) h
     by true h = cc
     by false h = h
 
-distinct_behind : (es : List CachedLayout) → IsDistinct same_gfid (keys_of es) → IsDistinct same_gfid (keys_of (drop 1 es))
+distinct_behind :
+    (es : List CachedLayout) → IsDistinct same_gfid (keys_of es)
+    → IsDistinct same_gfid (keys_of (drop 1 es))
 distinct_behind [] h = h
 distinct_behind (e ∷ es) h = IsDistinct-tail same_gfid e.0 (keys_of es) h
 
@@ -83,12 +91,17 @@ module _ (cache : List CachedLayout) (dir : Gfid) (layout : List (Option Range))
       })
 
 -- what holds of each key holds of the key of each entry
-each_key : {K X : Type 0} (P : K → Type 0) (es : List (K × X)) → AllByRecursion P (keys_of es) → AllByRecursion (λ e. P e.0) es
+each_key :
+    {K X : Type 0} (P : K → Type 0) (es : List (K × X)) → AllByRecursion P (keys_of es)
+    → AllByRecursion (λ e. P e.0) es
 each_key P [] h = tt
 each_key P (e ∷ es) h = (h.0, each_key P es h.1)
 
 -- the oldest of 256 is the one that gives way
-gives_way : (e : CachedLayout) (es : List CachedLayout) (dir : Gfid) (layout : List (Option Range)) → IsCache (e ∷ es) → 256 ≤ length (e ∷ es) → is_some (layout_at (e ∷ es) dir) ≡ false → same_gfid e.0 dir ≡ false → GivesWay (e ∷ es) dir e.0 (es ++ (dir, layout) ∷ [])
+gives_way :
+    (e : CachedLayout) (es : List CachedLayout) (dir : Gfid) (layout : List (Option Range))
+    → IsCache (e ∷ es) → 256 ≤ length (e ∷ es) → is_some (layout_at (e ∷ es) dir) ≡ false
+    → same_gfid e.0 dir ≡ false → GivesWay (e ∷ es) dir e.0 (es ++ (dir, layout) ∷ [])
 gives_way e es dir layout is full absent ne = record {
   full = let few = is.few in omega (arith, few, full);
   absent = none_of (layout_at (e ∷ es) dir) absent;

@@ -11,17 +11,24 @@ use Rattle.dht_xattr.specs.declared.range.Range.{Range}
 use Rattle.indexmap.specs.IndexMap.{insert_entry}
 use Rattle.dht_resolve.specs.Cache.{CachedLayout, IsCache, cached, layout_at, shown, with_room}
 
-map_cond : {A B : Type 0} (f : A → B) (b : Bool) (xs ys : List A) → map f (cond b xs ys) ≡ cond b (map f xs) (map f ys)
+map_cond :
+    {A B : Type 0} (f : A → B) (b : Bool) (xs ys : List A)
+    → map f (cond b xs ys) ≡ cond b (map f xs) (map f ys)
 map_cond f true xs ys = refl
 map_cond f false xs ys = refl
 
 -- a directory is found by its number
-pub lookup_shown : (dir : Gfid) (es : List (ℕ × List (Option Range))) → lookup (nat_eq dir.0) es ≡ layout_at (map shown es) dir
+pub lookup_shown :
+    (dir : Gfid) (es : List (ℕ × List (Option Range)))
+    → lookup (nat_eq dir.0) es ≡ layout_at (map shown es) dir
 lookup_shown dir [] = refl
 lookup_shown dir (e ∷ es) = ap (cond (nat_eq dir.0 e.0) (Some e.1)) (lookup_shown dir es)
 
 -- and put by it
-pub insert_shown : (dir : Gfid) (layout : List (Option Range)) (es : List (ℕ × List (Option Range))) → map shown (insert_entry nat_eq es dir.0 layout) ≡ insert_entry same_gfid (map shown es) dir layout
+pub insert_shown :
+    (dir : Gfid) (layout : List (Option Range)) (es : List (ℕ × List (Option Range)))
+    → map shown (insert_entry nat_eq es dir.0 layout)
+    ≡ insert_entry same_gfid (map shown es) dir layout
 insert_shown dir layout [] = refl
 insert_shown dir layout (e ∷ es) =
     map_cond shown (nat_eq dir.0 e.0) ((e.0, layout) ∷ es) (e ∷ insert_entry nat_eq es dir.0 layout)
@@ -47,7 +54,9 @@ module _ {K X : Type 0} (eq : K → K → Bool) (k : K) (v : X) where
       by false h rest = ap (λ xs. e ∷ xs) (rest h)
 
 -- what is to be shown of a list, where there is room in it and where there is none
-pub room_cases : (P : List CachedLayout → Type 0) (cache : List CachedLayout) → (length cache < 256 → P cache) → (256 ≤ length cache → P (drop 1 cache)) → P (with_room cache)
+pub room_cases :
+    (P : List CachedLayout → Type 0) (cache : List CachedLayout) → (length cache < 256 → P cache)
+    → (256 ≤ length cache → P (drop 1 cache)) → P (with_room cache)
 room_cases P cache few many = by (nat_lt (length cache) 256) refl
   where
     by : (b : Bool) → nat_lt (length cache) 256 ≡ b → P (cond b cache (drop 1 cache))
@@ -55,14 +64,21 @@ room_cases P cache few many = by (nat_lt (length cache) 256) refl
     by false e = many (ltb-false (length cache) 256 e)
 
 -- what is to be shown of a put, where the directory is there and where it is not
-pub cached_cases : (P : List CachedLayout → Type 0) (cache : List CachedLayout) (dir : Gfid) (layout : List (Option Range)) → (is_some (layout_at cache dir) ≡ true → P (set_value (same_gfid dir) cache layout)) → (is_some (layout_at cache dir) ≡ false → P (with_room cache ++ (dir, layout) ∷ [])) → P (cached cache dir layout)
+pub cached_cases :
+    (P : List CachedLayout → Type 0) (cache : List CachedLayout) (dir : Gfid)
+    (layout : List (Option Range))
+    → (is_some (layout_at cache dir) ≡ true → P (set_value (same_gfid dir) cache layout))
+    → (is_some (layout_at cache dir) ≡ false → P (with_room cache ++ (dir, layout) ∷ []))
+    → P (cached cache dir layout)
 cached_cases P cache dir layout there absent = by (is_some (layout_at cache dir)) refl
   where
     by : (b : Bool) → is_some (layout_at cache dir) ≡ b → P (cond b (set_value (same_gfid dir) cache layout) (with_room cache ++ (dir, layout) ∷ []))
     by true e = there e
     by false e = absent e
 
-drop_push : {A : Type 0} (xs : List A) (x : A) → 256 ≤ length xs → drop 1 (xs ++ x ∷ []) ≡ drop 1 xs ++ x ∷ []
+drop_push :
+    {A : Type 0} (xs : List A) (x : A) → 256 ≤ length xs
+    → drop 1 (xs ++ x ∷ []) ≡ drop 1 xs ++ x ∷ []
 drop_push [] x h = absurd (let n : 256 ≤ 0 = h in omega arith)
 drop_push (y ∷ ys) x h = refl
 

@@ -72,7 +72,9 @@ seen_told (Dir g) node e = refl
 seen_told (Linkto value) node e = absurd (let z : None ≡ Some node = e in cc)
 
 -- so what a brick has at a name is what the tree has
-main_told : (s : Scene) (e : Entry) (b : ℕ) (m : Main) (node : Node) → Sound s → b < s.disk.count → (slot_at s.disk b e).main ≡ Some m → told m ≡ Some node → s.history.tree.names e ≡ Some node
+main_told :
+    (s : Scene) (e : Entry) (b : ℕ) (m : Main) (node : Node) → Sound s → b < s.disk.count
+    → (slot_at s.disk b e).main ≡ Some m → told m ≡ Some node → s.history.tree.names e ≡ Some node
 main_told s e b m node sound there h tells =
     let n = sound.kept.things.names e in
     let seen : main_at n.0 b ≡ Some m = sym (ap (λ (p : Slot). p.main) (n.1.has b there)) ∙ (ap visible h ∙ seen_told m node tells) in
@@ -82,12 +84,16 @@ main_told s e b m node sound there h tells =
 not_bare : (p : Slot) (m : Main) → p.main ≡ Some m → p ≢ bare
 not_bare p m e k = (let z : None ≡ Some m = ap (λ (x : Slot). x.main) (sym k) ∙ e in cc)
 
-main_housed : (s : Scene) (e : Entry) (b : ℕ) (m : Main) → Sound s → b < s.disk.count → (slot_at s.disk b e).main ≡ Some m → s.history.tree.dirs e.0 ≡ true
+main_housed :
+    (s : Scene) (e : Entry) (b : ℕ) (m : Main) → Sound s → b < s.disk.count
+    → (slot_at s.disk b e).main ≡ Some m → s.history.tree.dirs e.0 ≡ true
 main_housed s e b m sound there h = ((sound.kept.things.dirs e.0).led b there (sound.kept.things.housed e b there (not_bare (slot_at s.disk b e) m h))).1
 
 -- ---- the answer
 
-says_told : (p : Tree) (d : Gfid) (n : List ℕ) (node : Node) (g : Gfid) → p.dirs d ≡ true → p.names (d, n) ≡ Some node → answer_of (says p (Lookup d n) g) ≡ Some (node_answer node)
+says_told :
+    (p : Tree) (d : Gfid) (n : List ℕ) (node : Node) (g : Gfid) → p.dirs d ≡ true
+    → p.names (d, n) ≡ Some node → answer_of (says p (Lookup d n) g) ≡ Some (node_answer node)
 says_told p d n (IsFile f) g e k = ap (λ b. answer_of (if b then tree_says (p.names (d, n)) else Refuse Estale)) e ∙ ap (λ o. answer_of (tree_says o)) k
 says_told p d n (IsDir f) g e k = ap (λ b. answer_of (if b then tree_says (p.names (d, n)) else Refuse Estale)) e ∙ ap (λ o. answer_of (tree_says o)) k
 
@@ -107,7 +113,10 @@ pub record LookTold (x : Sought) (node : Node) (at : ℕ) (t : Scene) : Type 0 w
   pub deeds : t.mine.deeds ≡ None
 
 -- the answer has its point there, and the name is that still
-pub look_told : (x : Sought) (w : Prepared) (m : Main) (node : Node) (r : Reply) (at : ℕ) (s t : Scene) → main_shown r ≡ Some m → told m ≡ Some node → Sound s → Sound t → at ≡ t.history.size → Seeks x.location w x.brick s → Guarantee s (look_ask x) r t → LookTold x node at t
+pub look_told :
+    (x : Sought) (w : Prepared) (m : Main) (node : Node) (r : Reply) (at : ℕ) (s t : Scene)
+    → main_shown r ≡ Some m → told m ≡ Some node → Sound s → Sound t → at ≡ t.history.size
+    → Seeks x.location w x.brick s → Guarantee s (look_ask x) r t → LookTold x node at t
 look_told x w m node r at s t shown tells before after line k v =
     let l : Location = x.location in
     let e : Entry = entry_at l in

@@ -109,7 +109,9 @@ pub record Ready (m : Lookup) (limit : ℕ) (t : Scene) : Type 0 where
 sooner : (m : Lookup) (n limit : ℕ) (t : Scene) → n ≤ limit → Ready m n t → Ready m limit t
 sooner m n limit t l h = record { next = h.next; claims = h.claims; variant = let v = h.variant in omega arith; knows = h.knows }
 
-secures : (l : Location) (p : Prepared) (learned : Option (List (Option Range))) (t : Scene) → Waits l p t → Ready (LookingEverywhere l (begun p) learned) (l.bricks + 5) t
+secures :
+    (l : Location) (p : Prepared) (learned : Option (List (Option Range))) (t : Scene) → Waits l p t
+    → Ready (LookingEverywhere l (begun p) learned) (l.bricks + 5) t
 secures l p learned t h =
     let v : (section_stage (begun p)).variant ≡ l.bricks + 4 = ap (λ (w : Scoped). (section_stage (Locking w 0 [])).variant) h.scope ∙ (starts l.bricks l.directory Shared l.name).variant in
     record {
@@ -119,13 +121,24 @@ secures l p learned t h =
       knows = (begins_anew p t h.can, record { scope = h.scope; fault = refl; deeds = h.can.fresh.deeds });
     }
 
-seeks : (l : Location) (p : Prepared) (learned : Option (List (Option Range))) (b : ℕ) (t : Scene) → b < l.bricks → Waits l p t → Ready (LookingAtHolder (record { location = l; brick = record { 0 = b }; learned = learned }) p) (l.bricks + 7) t
+seeks :
+    (l : Location) (p : Prepared) (learned : Option (List (Option Range))) (b : ℕ) (t : Scene)
+    → b < l.bricks → Waits l p t
+    → Ready
+    (LookingAtHolder (record { location = l; brick = record { 0 = b }; learned = learned }) p)
+    (l.bricks + 7) t
 seeks l p learned b t within h = record { next = []; claims = refl; variant = omega arith; knows = record { waits = h; within = within } }
 
-follows : (x : Sought) (p : Prepared) (b : BrickNo) (t : Scene) → b.0 < x.location.bricks → Waits x.location p t → Ready (FollowingLinkto (record x { brick = b }) p) (x.location.bricks + 6) t
+follows :
+    (x : Sought) (p : Prepared) (b : BrickNo) (t : Scene) → b.0 < x.location.bricks
+    → Waits x.location p t
+    → Ready (FollowingLinkto (record x { brick = b }) p) (x.location.bricks + 6) t
 follows x p b t within h = record { next = []; claims = refl; variant = omega arith; knows = record { waits = h; within = within } }
 
-aimed_ready : (l : Location) (p : Prepared) (learned : Option (List (Option Range))) (o : Option ℕ) (t : Scene) → Waits l p t → Ready (aimed_at l p learned o) (l.bricks + 7) t
+aimed_ready :
+    (l : Location) (p : Prepared) (learned : Option (List (Option Range))) (o : Option ℕ)
+    (t : Scene)
+    → Waits l p t → Ready (aimed_at l p learned o) (l.bricks + 7) t
 aimed_ready l p learned None t h = sooner (LookingEverywhere l (begun p) learned) (l.bricks + 5) (l.bricks + 7) t (omega arith) (secures l p learned t h)
 aimed_ready l p learned (Some b) t h = by (nat_lt b l.bricks) refl
   where
@@ -133,7 +146,10 @@ aimed_ready l p learned (Some b) t h = by (nat_lt b l.bricks) refl
     by true e = seeks l p learned b t (grind (arith, nat_tests, e)) h
     by false e = sooner (LookingEverywhere l (begun p) learned) (l.bricks + 5) (l.bricks + 7) t (omega arith) (secures l p learned t h)
 
-surveyed_ready : (l : Location) (p : Prepared) (b : BrickNo) (ranges : List (Option Range)) (t : Scene) → b.0 < l.bricks → Waits l p t → Ready (surveyed l p b ranges) ((l.bricks - b.0) + l.bricks + 6) t
+surveyed_ready :
+    (l : Location) (p : Prepared) (b : BrickNo) (ranges : List (Option Range)) (t : Scene)
+    → b.0 < l.bricks → Waits l p t
+    → Ready (surveyed l p b ranges) ((l.bricks - b.0) + l.bricks + 6) t
 surveyed_ready l p b ranges t within h = by (nat_le (l.bricks - b.0) 1) refl
   where
     by : (v : Bool) → nat_le (l.bricks - b.0) 1 ≡ v → Ready (if v then aimed l p (Some ranges) ranges else Surveying l p (record { 0 = b.0 + 1 }) ranges) ((l.bricks - b.0) + l.bricks + 6) t
@@ -150,24 +166,40 @@ surveyed_ready l p b ranges t within h = by (nat_le (l.bricks - b.0) 1) refl
 
 -- ---- what is known after a request that claims nothing
 
-waits_moved : (l : Location) (p : Prepared) (s t : Scene) (a : Ask) (r : Reply) → IsQuiet a.request → Waits l p s → Guarantee s a r t → Waits l p t
+waits_moved :
+    (l : Location) (p : Prepared) (s t : Scene) (a : Ask) (r : Reply) → IsQuiet a.request
+    → Waits l p s → Guarantee s a r t → Waits l p t
 waits_moved l p s t a r quiet h v = record { scope = h.scope; can = can_begin_moved p s t a r quiet h.can v }
 
 -- a stage of a lookup that has claimed nothing goes on to one that is ready
-goes_on : (x : Stage) (n : Lookup) (limit : ℕ) (r : Reply) (at : ℕ) (s t : Scene) → x.claims.locks ≡ [] → limit < x.variant → Ready n limit t → Served x r at s t → GoesOn x (lookup_stage n) r t
+goes_on :
+    (x : Stage) (n : Lookup) (limit : ℕ) (r : Reply) (at : ℕ) (s t : Scene) → x.claims.locks ≡ []
+    → limit < x.variant → Ready n limit t → Served x r at s t → GoesOn x (lookup_stage n) r t
 goes_on x n limit r at s t e l ready h =
     let v = ready.variant in
     free_goes_on x (lookup_stage n) ready.next r at s t e ready.claims ready.knows (omega arith) h
 
 -- and it may end so
-ends : (x : Stage) (d : Resolved) (r : Reply) (at : ℕ) (s t : Scene) → x.claims.locks ≡ [] → IsAnswered d.answered t → HasRoom d.answered.location d.answered.finish.answer d.room t → Served x r at s t → EndsIn x (resolved d) t
+ends :
+    (x : Stage) (d : Resolved) (r : Reply) (at : ℕ) (s t : Scene) → x.claims.locks ≡ []
+    → IsAnswered d.answered t → HasRoom d.answered.location d.answered.finish.answer d.room t
+    → Served x r at s t → EndsIn x (resolved d) t
 ends x d r at s t e right room h = free_ends x (resolved d) r at s t refl e (right, room) h
 
 -- with an answer from which no other part goes on
-ends_done : (x : Stage) (l : Location) (f : Finish) (layout : Option (List (Option Range))) (r : Reply) (at : ℕ) (s t : Scene) → x.claims.locks ≡ [] → IsAnswered (answers_so l f None layout) t → HasRoom l f.answer None t → Served x r at s t → Went x r t (done_as l f layout)
+ends_done :
+    (x : Stage) (l : Location) (f : Finish) (layout : Option (List (Option Range))) (r : Reply)
+    (at : ℕ) (s t : Scene)
+    → x.claims.locks ≡ [] → IsAnswered (answers_so l f None layout) t → HasRoom l f.answer None t
+    → Served x r at s t → Went x r t (done_as l f layout)
 ends_done x l f layout r at s t e right room h = ends x (record { answered = answers_so l f None layout; room = None }) r at s t e right room h
 
-stops : (x : Stage) (l : Location) (learned : Option (List (Option Range))) (turn : Turn Lookup Resolved) (r : Reply) (at : ℕ) (s t : Scene) (o : Option Errno) → fault_of r ≡ o → x.claims.locks ≡ [] → t.mine.deeds ≡ None → (fault_of r ≡ None → Went x r t turn) → Served x r at s t → Went x r t (unless_fault o l learned turn)
+stops :
+    (x : Stage) (l : Location) (learned : Option (List (Option Range)))
+    (turn : Turn Lookup Resolved) (r : Reply) (at : ℕ) (s t : Scene) (o : Option Errno)
+    → fault_of r ≡ o → x.claims.locks ≡ [] → t.mine.deeds ≡ None
+    → (fault_of r ≡ None → Went x r t turn) → Served x r at s t
+    → Went x r t (unless_fault o l learned turn)
 stops x l learned turn r at s t None z claims deeds go h = go z
 stops x l learned turn r at s t (Some e) z claims deeds go h = ends_done x l (fault_finish e) learned r at s t claims (fault_answered l e learned t (brick_errors r e z) (fault_earned s t _ r e z h.moved) deeds) tt h
 
@@ -177,22 +209,37 @@ abbrev pub shown_reply : Option DirRecord → (DirRecord → Given) → Contents
 shown_reply o gives c = reply_in (within (with_store c) (in_dir o (λ x. Do (gives x) c.store)))
 
 -- a brick that is up shows what it has
-pub brick_shows : (o : Option DirRecord) (gives : DirRecord → Given) (c : Contents) → is_shown (shown_reply o gives c) ≡ true
+pub brick_shows :
+    (o : Option DirRecord) (gives : DirRecord → Given) (c : Contents)
+    → is_shown (shown_reply o gives c) ≡ true
 brick_shows None gives c = refl
 brick_shows (Some x) gives c = refl
 
-no_record : (o : Option DirRecord) (gives : DirRecord → Given) (c : Contents) → is_nodir (shown_reply o gives c) ≡ true → o ≡ None
+no_record :
+    (o : Option DirRecord) (gives : DirRecord → Given) (c : Contents)
+    → is_nodir (shown_reply o gives c) ≡ true → o ≡ None
 no_record None gives c h = refl
 no_record (Some x) gives c h = absurd (let z : false ≡ true = h in cc)
 
 pub exclude : (b : Bool) → b ≡ true → b ≡ false → ⊥
 exclude b e k = let z : true ≡ false = sym e ∙ k in cc
 
-pub survey_reply : (l : Location) (p : Prepared) (b : BrickNo) (ranges : List (Option Range)) (r : Reply) (at : ℕ) (s t : Scene) → fault_of r ≡ None → Served (lookup_stage (Surveying l p b ranges)) r at s t → r ≡ shown_reply (dir (s.disk.brick b.0).store l.directory) (λ x. given.Dirinfo (info_of (s.disk.brick b.0).store l.directory x)) (s.disk.brick b.0)
+pub survey_reply :
+    (l : Location) (p : Prepared) (b : BrickNo) (ranges : List (Option Range)) (r : Reply) (at : ℕ)
+    (s t : Scene)
+    → fault_of r ≡ None → Served (lookup_stage (Surveying l p b ranges)) r at s t
+    → r
+    ≡ shown_reply (dir (s.disk.brick b.0).store l.directory)
+    (λ x. given.Dirinfo (info_of (s.disk.brick b.0).store l.directory x)) (s.disk.brick b.0)
 survey_reply l p b ranges r at s t z h = row_reply s t _ r h.moved z
 
 -- the home has no record of the directory
-gone_step : (l : Location) (p : Prepared) (b : BrickNo) (ranges : List (Option Range)) (r : Reply) (at : ℕ) (s t : Scene) → fault_of r ≡ None → shows_gone l.directory b r ≡ true → Served (lookup_stage (Surveying l p b ranges)) r at s t → Went (lookup_stage (Surveying l p b ranges)) r t (gone l at None)
+gone_step :
+    (l : Location) (p : Prepared) (b : BrickNo) (ranges : List (Option Range)) (r : Reply) (at : ℕ)
+    (s t : Scene)
+    → fault_of r ≡ None → shows_gone l.directory b r ≡ true
+    → Served (lookup_stage (Surveying l p b ranges)) r at s t
+    → Went (lookup_stage (Surveying l p b ranges)) r t (gone l at None)
 gone_step l p b ranges r at s t z e h =
     let q = both (is_nodir r) (nat_eq b.0 (home l.directory)) e in
     let c : Contents = s.disk.brick b.0 in
@@ -202,12 +249,20 @@ gone_step l p b ranges r at s t z e h =
     let was = home_gone l.directory at s t _ r tt k.can.fresh.deeds h.before h.after h.line at_home h.moved in
     ends_done (lookup_stage (Surveying l p b ranges)) l (gone_at at) None r at s t refl (gone_answered l l.directory at None t refl was) tt h
 
-survey_on : (l : Location) (p : Prepared) (b : BrickNo) (old ranges : List (Option Range)) (r : Reply) (at : ℕ) (s t : Scene) → Served (lookup_stage (Surveying l p b old)) r at s t → GoesOn (lookup_stage (Surveying l p b old)) (lookup_stage (surveyed l p b ranges)) r t
+survey_on :
+    (l : Location) (p : Prepared) (b : BrickNo) (old ranges : List (Option Range)) (r : Reply)
+    (at : ℕ) (s t : Scene)
+    → Served (lookup_stage (Surveying l p b old)) r at s t
+    → GoesOn (lookup_stage (Surveying l p b old)) (lookup_stage (surveyed l p b ranges)) r t
 survey_on l p b old ranges r at s t h =
     let k = h.is_at.knows in
     goes_on (lookup_stage (Surveying l p b old)) (surveyed l p b ranges) ((l.bricks - b.0) + l.bricks + 6) r at s t refl (omega arith) (surveyed_ready l p b ranges t k.within (waits_moved l p s t _ r tt k.waits h.moved)) h
 
-survey_step : (l : Location) (p : Prepared) (b : BrickNo) (ranges : List (Option Range)) (r : Reply) (at : ℕ) (s t : Scene) → fault_of r ≡ None → Served (lookup_stage (Surveying l p b ranges)) r at s t → Went (lookup_stage (Surveying l p b ranges)) r t (survey_answered l p b ranges r at)
+survey_step :
+    (l : Location) (p : Prepared) (b : BrickNo) (ranges : List (Option Range)) (r : Reply) (at : ℕ)
+    (s t : Scene)
+    → fault_of r ≡ None → Served (lookup_stage (Surveying l p b ranges)) r at s t
+    → Went (lookup_stage (Surveying l p b ranges)) r t (survey_answered l p b ranges r at)
 survey_step l p b ranges r at s t z h = by (shows_gone l.directory b r) (is_shown r) refl refl
   where
     c : Contents
@@ -221,7 +276,9 @@ survey_step l p b ranges r at s t z h = by (shows_gone l.directory b r) (is_show
 -- ---- the looks before any lock
 
 -- a brick to which a linkto leads is one of the volume
-leads_within : (bricks : ℕ) (value : List ℕ) (o : Option ℕ) (b : ℕ) → linked_brick (replay_names bricks) value ≡ o → o ≡ Some b → b < bricks
+leads_within :
+    (bricks : ℕ) (value : List ℕ) (o : Option ℕ) (b : ℕ)
+    → linked_brick (replay_names bricks) value ≡ o → o ≡ Some b → b < bricks
 leads_within bricks value o b e k =
     let q = position-Some (λ name. bytes_eq name (without_zero value)) (replay_names bricks) b [] (e ∙ k) in
     let l : b < length (replay_names bricks) = q.0 in
@@ -232,7 +289,8 @@ leads_some : (o : Option ℕ) (b : BrickNo) → leads_to o ≡ Leads b → o ≡
 leads_some None b e = absurd (let z : Nothing ≡ Leads b = e in cc)
 leads_some (Some i) b e = (let z : Leads (record { 0 = i }) ≡ Leads b = e in let k : ◌≡◌ {A = BrickNo} (record { 0 = i }) b = cc in ap (λ (j : BrickNo). Some j.0) k)
 
-shown_within : (bricks : ℕ) (m : Option Main) (b : BrickNo) → shown_main bricks m ≡ Leads b → b.0 < bricks
+shown_within :
+    (bricks : ℕ) (m : Option Main) (b : BrickNo) → shown_main bricks m ≡ Leads b → b.0 < bricks
 shown_within bricks None b e = absurd (let z : Nothing ≡ Leads b = e in cc)
 shown_within bricks (Some (main.Dir g)) b e = absurd (let z : Dir g ≡ Leads b = e in cc)
 shown_within bricks (Some (main.File f over)) b e = absurd (let z : File f ≡ Leads b = e in cc)
@@ -247,13 +305,16 @@ leads_no_dir None g e = (let z : Nothing ≡ Dir g = e in cc)
 leads_no_dir (Some b) g e = (let z : Leads (record { 0 = b }) ≡ Dir g = e in cc)
 
 -- a look that is taken as a file, or a directory, shows it
-shown_file : (bricks : ℕ) (m : Option Main) (f : Gfid) → shown_main bricks m ≡ File f → (over : Option BrickNo) × (m ≡ Some (main.File f over))
+shown_file :
+    (bricks : ℕ) (m : Option Main) (f : Gfid) → shown_main bricks m ≡ File f
+    → (over : Option BrickNo) × (m ≡ Some (main.File f over))
 shown_file bricks None f e = absurd (let z : Nothing ≡ File f = e in cc)
 shown_file bricks (Some (main.Dir g)) f e = absurd (let z : Dir g ≡ File f = e in cc)
 shown_file bricks (Some (main.File x over)) f e = (over, let z : File x ≡ File f = e in let k : x ≡ f = cc in ap (λ g. Some (main.File g over)) k)
 shown_file bricks (Some (main.Linkto value)) f e = absurd (leads_no_file _ f e)
 
-shown_dir : (bricks : ℕ) (m : Option Main) (g : Gfid) → shown_main bricks m ≡ Dir g → m ≡ Some (main.Dir g)
+shown_dir :
+    (bricks : ℕ) (m : Option Main) (g : Gfid) → shown_main bricks m ≡ Dir g → m ≡ Some (main.Dir g)
 shown_dir bricks None g e = absurd (let z : Nothing ≡ Dir g = e in cc)
 shown_dir bricks (Some (main.Dir x)) g e = (let z : Dir x ≡ Dir g = e in let k : x ≡ g = cc in ap (λ y. Some (main.Dir y)) k)
 shown_dir bricks (Some (main.File f over)) g e = absurd (let z : File f ≡ Dir g = e in cc)
@@ -268,7 +329,10 @@ record FreeLook (x : Sought) (p : Prepared) (stage : Stage) (r : Reply) (at : �
   moved : Guarantee s (look_ask x) r t
   served : Served stage r at s t
 
-look_file : (x : Sought) (p : Prepared) (stage : Stage) (f : Gfid) (r : Reply) (at : ℕ) (s t : Scene) → shown_as x.location.bricks r ≡ File f → FreeLook x p stage r at s t → Went stage r t (shown_at x p (answer.File f) (Some x.brick) at)
+look_file :
+    (x : Sought) (p : Prepared) (stage : Stage) (f : Gfid) (r : Reply) (at : ℕ) (s t : Scene)
+    → shown_as x.location.bricks r ≡ File f → FreeLook x p stage r at s t
+    → Went stage r t (shown_at x p (answer.File f) (Some x.brick) at)
 look_file x p stage f r at s t e h =
     let q = shown_file x.location.bricks (main_shown r) f e in
     let k = look_told x p (main.File f q.0) (IsFile f) r at s t q.1 (told_file f q.0) h.served.before h.served.after h.served.line h.before h.moved in
@@ -279,7 +343,10 @@ look_file x p stage f r at s t e h =
     told_file : (f : Gfid) (over : Option BrickNo) → told (main.File f over) ≡ Some (IsFile f)
     told_file f over = refl
 
-look_dir : (x : Sought) (p : Prepared) (stage : Stage) (g : Gfid) (r : Reply) (at : ℕ) (s t : Scene) → shown_as x.location.bricks r ≡ Dir g → FreeLook x p stage r at s t → Went stage r t (shown_at x p (answer.Dir g) None at)
+look_dir :
+    (x : Sought) (p : Prepared) (stage : Stage) (g : Gfid) (r : Reply) (at : ℕ) (s t : Scene)
+    → shown_as x.location.bricks r ≡ Dir g → FreeLook x p stage r at s t
+    → Went stage r t (shown_at x p (answer.Dir g) None at)
 look_dir x p stage g r at s t e h =
     let k = look_told x p (main.Dir g) (IsDir g) r at s t (shown_dir x.location.bricks (main_shown r) g e) (told_dir g) h.served.before h.served.after h.served.line h.before h.moved in
     ends stage (record { answered = answers_so x.location (record { answer = answer.Dir g; at = Some at }) None x.learned; room = Some p }) r at s t h.claims
@@ -295,31 +362,48 @@ look_dir x p stage g r at s t e h =
     told_dir : (g : Gfid) → told (main.Dir g) ≡ Some (IsDir g)
     told_dir g = refl
 
-look_missed : (x : Sought) (p : Prepared) (stage : Stage) (r : Reply) (at : ℕ) (s t : Scene) → FreeLook x p stage r at s t → GoesOn stage (lookup_stage (LookingEverywhere x.location (begun p) x.learned)) r t
+look_missed :
+    (x : Sought) (p : Prepared) (stage : Stage) (r : Reply) (at : ℕ) (s t : Scene)
+    → FreeLook x p stage r at s t
+    → GoesOn stage (lookup_stage (LookingEverywhere x.location (begun p) x.learned)) r t
 look_missed x p stage r at s t h =
     let v = h.variant in
     goes_on stage (LookingEverywhere x.location (begun p) x.learned) (x.location.bricks + 5) r at s t h.claims (omega arith) (secures x.location p x.learned t (waits_moved x.location p s t _ r tt h.before.waits h.moved)) h.served
 
-holder_step : (x : Sought) (p : Prepared) (r : Reply) (at : ℕ) (s t : Scene) (shown : Shown) → shown_as x.location.bricks r ≡ shown → FreeLook x p (lookup_stage (LookingAtHolder x p)) r at s t → Went (lookup_stage (LookingAtHolder x p)) r t (holder_showed x p shown at)
+holder_step :
+    (x : Sought) (p : Prepared) (r : Reply) (at : ℕ) (s t : Scene) (shown : Shown)
+    → shown_as x.location.bricks r ≡ shown
+    → FreeLook x p (lookup_stage (LookingAtHolder x p)) r at s t
+    → Went (lookup_stage (LookingAtHolder x p)) r t (holder_showed x p shown at)
 holder_step x p r at s t Nothing e h = look_missed x p _ r at s t h
 holder_step x p r at s t (Dir g) e h = look_dir x p _ g r at s t e h
 holder_step x p r at s t (File f) e h = look_file x p _ f r at s t e h
 holder_step x p r at s t (Leads b) e h =
     goes_on (lookup_stage (LookingAtHolder x p)) (FollowingLinkto (record x { brick = b }) p) (x.location.bricks + 6) r at s t refl (omega arith) (follows x p b t (shown_within x.location.bricks (main_shown r) b e) (waits_moved x.location p s t _ r tt h.before.waits h.moved)) h.served
 
-linked_step : (x : Sought) (p : Prepared) (r : Reply) (at : ℕ) (s t : Scene) (shown : Shown) → shown_as x.location.bricks r ≡ shown → FreeLook x p (lookup_stage (FollowingLinkto x p)) r at s t → Went (lookup_stage (FollowingLinkto x p)) r t (linked_showed x p shown at)
+linked_step :
+    (x : Sought) (p : Prepared) (r : Reply) (at : ℕ) (s t : Scene) (shown : Shown)
+    → shown_as x.location.bricks r ≡ shown
+    → FreeLook x p (lookup_stage (FollowingLinkto x p)) r at s t
+    → Went (lookup_stage (FollowingLinkto x p)) r t (linked_showed x p shown at)
 linked_step x p r at s t Nothing e h = look_missed x p _ r at s t h
 linked_step x p r at s t (Dir g) e h = look_dir x p _ g r at s t e h
 linked_step x p r at s t (File f) e h = look_file x p _ f r at s t e h
 linked_step x p r at s t (Leads b) e h = look_missed x p _ r at s t h
 
-look_shows : (x : Sought) (p : Prepared) (stage : Stage) (r : Reply) (at : ℕ) (s t : Scene) → fault_of r ≡ None → FreeLook x p stage r at s t → is_shown r ≡ true
+look_shows :
+    (x : Sought) (p : Prepared) (stage : Stage) (r : Reply) (at : ℕ) (s t : Scene)
+    → fault_of r ≡ None → FreeLook x p stage r at s t → is_shown r ≡ true
 look_shows x p stage r at s t z h =
     let c : Contents = s.disk.brick x.brick.0 in
     ap is_shown (row_reply s t _ r h.moved z) ∙ brick_shows (dir c.store x.location.directory) (λ y. given.Look (look_of c.store (entry_at x.location) y)) c
 
 -- a look is always answered
-answered_look : (x : Sought) (p : Prepared) (stage : Stage) (again : Lookup) (turn : Turn Lookup Resolved) (r : Reply) (at : ℕ) (s t : Scene) (v : Bool) → is_shown r ≡ v → fault_of r ≡ None → FreeLook x p stage r at s t → Went stage r t turn → Went stage r t (if v then turn else Go again)
+answered_look :
+    (x : Sought) (p : Prepared) (stage : Stage) (again : Lookup) (turn : Turn Lookup Resolved)
+    (r : Reply) (at : ℕ) (s t : Scene) (v : Bool)
+    → is_shown r ≡ v → fault_of r ≡ None → FreeLook x p stage r at s t → Went stage r t turn
+    → Went stage r t (if v then turn else Go again)
 answered_look x p stage again turn r at s t true e z h went = went
 answered_look x p stage again turn r at s t false e z h went = absurd (exclude (is_shown r) (look_shows x p stage r at s t z h) e)
 
@@ -332,7 +416,13 @@ record Opens (l : Location) (m : Section) (learned : Option (List (Option Range)
   left : Outlasts m (Holding h)
   ends : EndsIn (section_stage m) (opened_ending (Holding h)) t
 
-held_closes : (l : Location) (m : Section) (learned : Option (List (Option Range))) (h : Held) (place : Option BrickNo) (r : Reply) (t : Scene) → HasPlace (found_answer (held_looked h (entry_at l)).sight.what) place → Opens l m learned h r t → GoesOn (lookup_stage (LookingEverywhere l m learned)) (lookup_stage (closed l h (seen_finish (held_looked h (entry_at l))) place)) r t
+held_closes :
+    (l : Location) (m : Section) (learned : Option (List (Option Range))) (h : Held)
+    (place : Option BrickNo) (r : Reply) (t : Scene)
+    → HasPlace (found_answer (held_looked h (entry_at l)).sight.what) place
+    → Opens l m learned h r t
+    → GoesOn (lookup_stage (LookingEverywhere l m learned))
+    (lookup_stage (closed l h (seen_finish (held_looked h (entry_at l))) place)) r t
 held_closes l m learned h place r t is k =
     let left = k.left in
     part_ends (section_stage m) (lookup_stage (closed l h (seen_finish (held_looked h (entry_at l))) place)) (opened_ending (Holding h)) 1 (λ s. Secures l m s) r t k.ends refl (omega arith) (
@@ -351,14 +441,28 @@ three false b c h = absurd (let z : false ≡ true = h in cc)
 differ : (i j : ℕ) → not (nat_eq i j) ≡ true → i ≢ j
 differ i j h e = (let k : nat_eq i j ≡ true = (exact_nat i j).1 e in let z : false ≡ true = sym (ap not k) ∙ h in cc)
 
-held_misplaced : (l : Location) (m : Section) (learned : Option (List (Option Range))) (h : Held) (p : Place) (b : ℕ) (r : Reply) (t : Scene) → file_in (held_looked h (entry_at l)).sight.what ≡ Some p → held_holder h (entry_at l) ≡ Some b → wants_linkto l h b p ≡ true → Opens l m learned h r t → GoesOn (lookup_stage (LookingEverywhere l m learned)) (lookup_stage (LayingLinkto (record { location = l; held = h; holder = record { 0 = b }; place = p }))) r t
+held_misplaced :
+    (l : Location) (m : Section) (learned : Option (List (Option Range))) (h : Held) (p : Place)
+    (b : ℕ) (r : Reply) (t : Scene)
+    → file_in (held_looked h (entry_at l)).sight.what ≡ Some p → held_holder h (entry_at l) ≡ Some b
+    → wants_linkto l h b p ≡ true → Opens l m learned h r t
+    → GoesOn (lookup_stage (LookingEverywhere l m learned))
+    (lookup_stage
+    (LayingLinkto
+    (record { location = l; held = h; holder = record { 0 = b }; place = p })))
+    r t
 held_misplaced l m learned h p b r t file holds wants k =
     let left = k.left in
     let q = three (not (nat_eq b p.brick.0)) (mark_at (held_looked h (entry_at l)).sight.copies b) _ wants in
     part_ends (section_stage m) (lookup_stage (LayingLinkto (record { location = l; held = h; holder = record { 0 = b }; place = p }))) (opened_ending (Holding h)) 1 (λ s. Secures l m s) r t k.ends refl (omega arith)
     (record { held = k.held; file = file; holds = holds; apart = differ b p.brick.0 q.0; copied = q.1 })
 
-held_placed : (l : Location) (m : Section) (learned : Option (List (Option Range))) (h : Held) (p : Place) (o : Option ℕ) (r : Reply) (t : Scene) → file_in (held_looked h (entry_at l)).sight.what ≡ Some p → held_holder h (entry_at l) ≡ o → Opens l m learned h r t → GoesOn (lookup_stage (LookingEverywhere l m learned)) (lookup_stage (placed_by o l h p)) r t
+held_placed :
+    (l : Location) (m : Section) (learned : Option (List (Option Range))) (h : Held) (p : Place)
+    (o : Option ℕ) (r : Reply) (t : Scene)
+    → file_in (held_looked h (entry_at l)).sight.what ≡ Some p → held_holder h (entry_at l) ≡ o
+    → Opens l m learned h r t
+    → GoesOn (lookup_stage (LookingEverywhere l m learned)) (lookup_stage (placed_by o l h p)) r t
 held_placed l m learned h p None r t file holds k = held_closes l m learned h (Some p.brick) r t (a_place _ p p.brick file) k
 held_placed l m learned h p (Some b) r t file holds k = by (wants_linkto l h b p) refl
   where
@@ -366,20 +470,35 @@ held_placed l m learned h p (Some b) r t file holds k = by (wants_linkto l h b p
     by true e = held_misplaced l m learned h p b r t file holds e k
     by false e = held_closes l m learned h (Some p.brick) r t (a_place _ p p.brick file) k
 
-held_found : (l : Location) (m : Section) (learned : Option (List (Option Range))) (h : Held) (o : Option Place) (r : Reply) (t : Scene) → file_in (held_looked h (entry_at l)).sight.what ≡ o → Opens l m learned h r t → GoesOn (lookup_stage (LookingEverywhere l m learned)) (lookup_stage (found_by o l h)) r t
+held_found :
+    (l : Location) (m : Section) (learned : Option (List (Option Range))) (h : Held)
+    (o : Option Place) (r : Reply) (t : Scene)
+    → file_in (held_looked h (entry_at l)).sight.what ≡ o → Opens l m learned h r t
+    → GoesOn (lookup_stage (LookingEverywhere l m learned)) (lookup_stage (found_by o l h)) r t
 held_found l m learned h None r t e k = held_closes l m learned h None r t (no_place _ e) k
 held_found l m learned h (Some p) r t e k = held_placed l m learned h p (held_holder h (entry_at l)) r t e refl k
 
 -- what stopped it is an error of a brick, after each reply
-now_fault : (m : Section) (r : Reply) → part_fault (section_fault m) ≡ section_fault m → part_fault (fault_now m r) ≡ fault_now m r
+now_fault :
+    (m : Section) (r : Reply) → part_fault (section_fault m) ≡ section_fault m
+    → part_fault (fault_now m r) ≡ fault_now m r
 now_fault (Locking w i looks) r e = fault_errors r
 now_fault (Looking w looks n b x) r e = fault_errors r
 now_fault (Unlocking w i x) r e = e
 
-noted_error : (m : Section) (r : Reply) (o : Option Errno) → o ≡ fault_now m r → part_fault (section_fault m) ≡ section_fault m → part_fault o ≡ o
+noted_error :
+    (m : Section) (r : Reply) (o : Option Errno) → o ≡ fault_now m r
+    → part_fault (section_fault m) ≡ section_fault m → part_fault o ≡ o
 noted_error m r o e h = ap part_fault e ∙ (now_fault m r h ∙ sym e)
 
-section_step : (l : Location) (m : Section) (learned : Option (List (Option Range))) (turn : Turn Section Opened) (r : Reply) (at : ℕ) (s t : Scene) → MatchTurn turn (λ n. GoesOn (section_stage m) (section_stage n) r t) (λ d. EndsIn (section_stage m) (opened_ending d) t) → KeepsScope m turn → LeavesUnlocks m turn → NamesGone m turn → NotesFault m r turn → Served (lookup_stage (LookingEverywhere l m learned)) r at s t → Went (lookup_stage (LookingEverywhere l m learned)) r t (section_turned l turn learned)
+section_step :
+    (l : Location) (m : Section) (learned : Option (List (Option Range)))
+    (turn : Turn Section Opened) (r : Reply) (at : ℕ) (s t : Scene)
+    → MatchTurn turn (λ n. GoesOn (section_stage m) (section_stage n) r t)
+    (λ d. EndsIn (section_stage m) (opened_ending d) t)
+    → KeepsScope m turn → LeavesUnlocks m turn → NamesGone m turn → NotesFault m r turn
+    → Served (lookup_stage (LookingEverywhere l m learned)) r at s t
+    → Went (lookup_stage (LookingEverywhere l m learned)) r t (section_turned l turn learned)
 section_step l m learned (Go n) r at s t went same left of notes v =
     let k = v.is_at.knows.1 in
     part_goes_on (section_stage m) (section_stage n) 1 (λ s. Secures l m s) (λ s. Secures l n s) r t went
@@ -405,7 +524,8 @@ section_step l m learned (Done (IsStopped e)) r at s t went same left of notes v
 -- ---- the linkto
 
 -- it is no step of the tree
-no_linkto_step : (y : Misplaced) (r : Reply) → step_of (linkto_ask y).brick.0 (linkto_ask y).request r ≡ None
+no_linkto_step :
+    (y : Misplaced) (r : Reply) → step_of (linkto_ask y).brick.0 (linkto_ask y).request r ≡ None
 no_linkto_step y (reply.Ok g) = refl
 no_linkto_step y (reply.Refused w) = refl
 no_linkto_step y (reply.Wait c) = refl
@@ -413,16 +533,24 @@ no_linkto_step y reply.Down = refl
 no_linkto_step y reply.Failed = refl
 no_linkto_step y reply.NoMemory = refl
 
-linkto_deeds : (y : Misplaced) (r : Reply) (s t : Scene) → Guarantee s (linkto_ask y) r t → t.mine.deeds ≡ s.mine.deeds
+linkto_deeds :
+    (y : Misplaced) (r : Reply) (s t : Scene) → Guarantee s (linkto_ask y) r t
+    → t.mine.deeds ≡ s.mine.deeds
 linkto_deeds y r s t g = g.mine.deeds_are ∙ ap (λ (o : Option TreeStep). deeds_by s t.history.size o) (no_linkto_step y g.real)
 
-linkto_tree : (y : Misplaced) (r : Reply) (s t : Scene) → Guarantee s (linkto_ask y) r t → t.history.tree ≡ s.history.tree
+linkto_tree :
+    (y : Misplaced) (r : Reply) (s t : Scene) → Guarantee s (linkto_ask y) r t
+    → t.history.tree ≡ s.history.tree
 linkto_tree y r s t g = g.tree ∙ ap (λ (o : Option TreeStep). tree_by o s.history.tree) (no_linkto_step y g.real)
 
 abbrev laid_layout : Misplaced → Option (List (Option Range))
 laid_layout y = Some (held_layout y.held (entry_at y.location))
 
-laid_closes : (y : Misplaced) (f : Finish) (place : Option BrickNo) (r : Reply) (at : ℕ) (s t : Scene) → IsAnswered (answers_so y.location f place (laid_layout y)) t → Served (lookup_stage (LayingLinkto y)) r at s t → GoesOn (lookup_stage (LayingLinkto y)) (lookup_stage (closed y.location y.held f place)) r t
+laid_closes :
+    (y : Misplaced) (f : Finish) (place : Option BrickNo) (r : Reply) (at : ℕ) (s t : Scene)
+    → IsAnswered (answers_so y.location f place (laid_layout y)) t
+    → Served (lookup_stage (LayingLinkto y)) r at s t
+    → GoesOn (lookup_stage (LayingLinkto y)) (lookup_stage (closed y.location y.held f place)) r t
 laid_closes y f place r at s t right h =
     let held = h.is_at.knows.held.held in
     let some = held.order.some in
@@ -441,7 +569,11 @@ laid_closes y f place r at s t right h =
       nearer = λ u. (λ w. omega arith, omega arith);
     }
 
-laid_answers : (y : Misplaced) (r : Reply) (at : ℕ) (s t : Scene) → Served (lookup_stage (LayingLinkto y)) r at s t → GoesOn (lookup_stage (LayingLinkto y)) (lookup_stage (answers_file y.location y.held y.place)) r t
+laid_answers :
+    (y : Misplaced) (r : Reply) (at : ℕ) (s t : Scene)
+    → Served (lookup_stage (LayingLinkto y)) r at s t
+    → GoesOn (lookup_stage (LayingLinkto y)) (lookup_stage (answers_file y.location y.held y.place))
+    r t
 laid_answers y r at s t h =
     let k = h.is_at.knows in
     let f : Finish = seen_finish (held_looked y.held (entry_at y.location)) in
@@ -455,12 +587,16 @@ vacant (Some (main.Dir g)) e = absurd (let z : Some (main.Dir g) ≡ None = e in
 vacant (Some (main.File f over)) e = absurd (let z : Some (main.File f over) ≡ None = e in cc)
 vacant (Some (main.Linkto value)) e = refl
 
-holder_vacant : (y : Misplaced) (s : Scene) → Sound s → IsMisplaced y s → is_vacant (slot_at s.disk y.holder.0 (entry_at y.location)).main ≡ true
+holder_vacant :
+    (y : Misplaced) (s : Scene) → Sound s → IsMisplaced y s
+    → is_vacant (slot_at s.disk y.holder.0 (entry_at y.location)).main ≡ true
 holder_vacant y s sound h =
     let stands = misplaced_stands y s h in
     vacant _ (ap (λ (p : Slot). p.main) (stands.has y.holder.0 (holder_there y s sound h)) ∙ here_off (Some (main.File y.place.file None)) y.place.brick.0 y.holder.0 h.apart)
 
-holder_housed : (y : Misplaced) (s : Scene) → Sound s → IsMisplaced y s → is_some (dir_at s.disk y.holder.0 y.location.directory) ≡ true
+holder_housed :
+    (y : Misplaced) (s : Scene) → Sound s → IsMisplaced y s
+    → is_some (dir_at s.disk y.holder.0 y.location.directory) ≡ true
 holder_housed y s sound h =
     let e = entry_at y.location in
     let x = held_looked y.held e in
@@ -472,7 +608,9 @@ holder_housed y s sound h =
     (subst (λ (mark : Bool). ReadAt e.0 mark (slice_index_or x.sight.layout y.holder.0 None) y.holder.0 s) h.copied read).there
 
 -- so the linkto is laid
-linkto_laid : (y : Misplaced) (r : Reply) (s t : Scene) → Sound s → fault_of r ≡ None → IsMisplaced y s → Guarantee s (linkto_ask y) r t → is_carried (reply_kind r) ≡ true
+linkto_laid :
+    (y : Misplaced) (r : Reply) (s t : Scene) → Sound s → fault_of r ≡ None → IsMisplaced y s
+    → Guarantee s (linkto_ask y) r t → is_carried (reply_kind r) ≡ true
 linkto_laid y r s t sound z h m =
     let l = y.location in
     let c : Contents = s.disk.brick y.holder.0 in
@@ -482,11 +620,18 @@ linkto_laid y r s t sound z h m =
     ∙ (ap (λ o. reply_in (within (with_store c) o)) (in_dir_there (dir c.store l.directory) _ (holder_housed y s sound h))
     ∙ ap (λ b. reply_in (within (with_store c) (on_slot q c.store (entry_at l) (when b new)))) (holder_vacant y s sound h)))
 
-laid_step : (y : Misplaced) (r : Reply) (at : ℕ) (s t : Scene) (v : Bool) → is_carried (reply_kind r) ≡ v → fault_of r ≡ None → Served (lookup_stage (LayingLinkto y)) r at s t → GoesOn (lookup_stage (LayingLinkto y)) (lookup_stage (if v then answers_file y.location y.held y.place else LayingLinkto y)) r t
+laid_step :
+    (y : Misplaced) (r : Reply) (at : ℕ) (s t : Scene) (v : Bool) → is_carried (reply_kind r) ≡ v
+    → fault_of r ≡ None → Served (lookup_stage (LayingLinkto y)) r at s t
+    → GoesOn (lookup_stage (LayingLinkto y))
+    (lookup_stage (if v then answers_file y.location y.held y.place else LayingLinkto y)) r t
 laid_step y r at s t true e z h = laid_answers y r at s t h
 laid_step y r at s t false e z h = absurd (exclude (is_carried (reply_kind r)) (linkto_laid y r s t h.before z h.is_at.knows h.moved) e)
 
-linkto_step : (y : Misplaced) (r : Reply) (at : ℕ) (s t : Scene) (o : Option Errno) → fault_of r ≡ o → Served (lookup_stage (LayingLinkto y)) r at s t → GoesOn (lookup_stage (LayingLinkto y)) (lookup_stage (laid_by o y r)) r t
+linkto_step :
+    (y : Misplaced) (r : Reply) (at : ℕ) (s t : Scene) (o : Option Errno) → fault_of r ≡ o
+    → Served (lookup_stage (LayingLinkto y)) r at s t
+    → GoesOn (lookup_stage (LayingLinkto y)) (lookup_stage (laid_by o y r)) r t
 linkto_step y r at s t None z h = laid_step y r at s t (is_carried (reply_kind r)) refl z h
 linkto_step y r at s t (Some e) z h =
     laid_closes y (fault_finish e) None r at s t
@@ -497,12 +642,20 @@ linkto_step y r at s t (Some e) z h =
 abbrev next_release : Release → Release
 next_release m = record { scope = m.scope; looks = m.looks; place = m.place - 1 }
 
-release_step : (m : Release) (x : Answered) (r : Reply) (t : Scene) (v : Bool) → Answers m x t → MatchTurn (if v then Go (next_release m) else Done (memory_of m)) (λ n. GoesOn (release_stage m) (release_stage n) r t) (λ d. EndsIn (release_stage m) (released_ending d) t) → Went (lookup_stage (Ending m x)) r t (release_turned (if v then Go (next_release m) else Done (memory_of m)) x)
+release_step :
+    (m : Release) (x : Answered) (r : Reply) (t : Scene) (v : Bool) → Answers m x t
+    → MatchTurn (if v then Go (next_release m) else Done (memory_of m))
+    (λ n. GoesOn (release_stage m) (release_stage n) r t)
+    (λ d. EndsIn (release_stage m) (released_ending d) t)
+    → Went (lookup_stage (Ending m x)) r t
+    (release_turned (if v then Go (next_release m) else Done (memory_of m)) x)
 release_step m x r t true is went = part_goes_on (release_stage m) (release_stage (next_release m)) 0 (λ s. Answers m x s) (λ s. Answers (next_release m) x s) r t went (record { right = is.right; scope = is.scope })
 release_step m x r t false is went = record { claims = went.claims; earned = (is.right, record { scope = is.scope; can = went.earned }) }
 
 -- what it answers stays right
-answers_moved : (m : Release) (x : Answered) (r : Reply) (at : ℕ) (s t : Scene) → Served (lookup_stage (Ending m x)) r at s t → Answers m x t
+answers_moved :
+    (m : Release) (x : Answered) (r : Reply) (at : ℕ) (s t : Scene)
+    → Served (lookup_stage (Ending m x)) r at s t → Answers m x t
 answers_moved m x r at s t v =
     let k = v.is_at.knows.1 in
     record {
@@ -512,10 +665,15 @@ answers_moved m x r at s t v =
 
 -- ---- all of it
 
-free_look : (x : Sought) (p : Prepared) (stage : Stage) (r : Reply) (at : ℕ) (s t : Scene) → stage.asks ≡ look_ask x → stage.claims.locks ≡ [] → x.location.bricks + 6 ≤ stage.variant → Seeks x.location p x.brick s → Guarantee s (look_ask x) r t → Served stage r at s t → FreeLook x p stage r at s t
+free_look :
+    (x : Sought) (p : Prepared) (stage : Stage) (r : Reply) (at : ℕ) (s t : Scene)
+    → stage.asks ≡ look_ask x → stage.claims.locks ≡ [] → x.location.bricks + 6 ≤ stage.variant
+    → Seeks x.location p x.brick s → Guarantee s (look_ask x) r t → Served stage r at s t
+    → FreeLook x p stage r at s t
 free_look x p stage r at s t asks claims variant before moved served = record { asks = asks; claims = claims; variant = variant; before = before; moved = moved; served = served }
 
-pub lookup_moves : (m : Lookup) (r : Reply) (at : ℕ) → Moves lookup_stage resolved m r at (lookup_after m r at)
+pub lookup_moves :
+    (m : Lookup) (r : Reply) (at : ℕ) → Moves lookup_stage resolved m r at (lookup_after m r at)
 lookup_moves (Surveying l p b ranges) r at s t v = stops _ l None (survey_answered l p b ranges r at) r at s t (fault_of r) refl refl (waits_moved l p s t _ r tt v.is_at.knows.waits v.moved).can.fresh.deeds (λ z. survey_step l p b ranges r at s t z v) v
 lookup_moves (LookingAtHolder x p) r at s t v =
     let look = free_look x p (lookup_stage (LookingAtHolder x p)) r at s t refl refl (omega arith) v.is_at.knows v.moved v in
@@ -545,11 +703,15 @@ first_waits l s h = record {
   };
 }
 
-pub first_knows : (l : Location) (known : Option (List (Option Range))) (s : Scene) → MayLookUp l s → (lookup_stage (first_lookup l known)).knows s
+pub first_knows :
+    (l : Location) (known : Option (List (Option Range))) (s : Scene) → MayLookUp l s
+    → (lookup_stage (first_lookup l known)).knows s
 first_knows l None s h = let there = h.home in record { waits = first_waits l s h; within = omega arith }
 first_knows l (Some ranges) s h = (aimed_ready l (prepared_at l) None (holder_in ranges l.name) s (first_waits l s h)).knows
 
-aimed_steps : (l : Location) (o : Option ℕ) → (lookup_stage (aimed_at l (prepared_at l) None o)).variant ≤ l.bricks + 7
+aimed_steps :
+    (l : Location) (o : Option ℕ)
+    → (lookup_stage (aimed_at l (prepared_at l) None o)).variant ≤ l.bricks + 7
 aimed_steps l None = let v = (starts l.bricks l.directory Shared l.name).variant in omega arith
 aimed_steps l (Some b) = by (nat_lt b l.bricks)
   where
@@ -557,12 +719,16 @@ aimed_steps l (Some b) = by (nat_lt b l.bricks)
     by true = omega arith
     by false = let v = (starts l.bricks l.directory Shared l.name).variant in omega arith
 
-pub first_steps : (l : Location) (known : Option (List (Option Range))) → (lookup_stage (first_lookup l known)).variant ≤ lookup_steps l known
+pub first_steps :
+    (l : Location) (known : Option (List (Option Range)))
+    → (lookup_stage (first_lookup l known)).variant ≤ lookup_steps l known
 first_steps l None = omega arith
 first_steps l (Some ranges) = aimed_steps l (holder_in ranges l.name)
 
 -- once more, with the memory of one that ended
-pub again_ready : (p : Prepared) (l : Location) (read : Option (List (Option Range))) (s : Scene) → IsRoom l p s → Ready (lookup_again p l read) (lookup_steps l read) s
+pub again_ready :
+    (p : Prepared) (l : Location) (read : Option (List (Option Range))) (s : Scene) → IsRoom l p s
+    → Ready (lookup_again p l read) (lookup_steps l read) s
 again_ready p l None s h =
     let home : home l.directory < p.scope.bricks = home_there l p.scope s h.scope h.can.fresh.scope in
     let bricks : p.scope.bricks ≡ l.bricks = ap (λ (w : Scoped). w.bricks) h.scope in

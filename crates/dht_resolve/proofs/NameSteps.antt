@@ -41,36 +41,50 @@ StaysAt l (Go n) = lookup_location n ≡ l
 StaysAt l (Done d) = d.answered.location ≡ l
 
 -- what holds of both branches
-pub of_both : {A : Type 0} (P : A → Type 0) (v : Bool) (x y : A) → P x → P y → P (if v then x else y)
+pub of_both :
+    {A : Type 0} (P : A → Type 0) (v : Bool) (x y : A) → P x → P y → P (if v then x else y)
 of_both P true x y there elsewhere = there
 of_both P false x y there elsewhere = elsewhere
 
 abbrev IsAt : Location → Lookup → Type 0
 IsAt l m = lookup_location m ≡ l
 
-aimed_stays : (l : Location) (p : Prepared) (learned : Option (List (Option Range))) (o : Option ℕ) → IsAt l (aimed_at l p learned o)
+aimed_stays :
+    (l : Location) (p : Prepared) (learned : Option (List (Option Range))) (o : Option ℕ)
+    → IsAt l (aimed_at l p learned o)
 aimed_stays l p learned None = refl
 aimed_stays l p learned (Some b) = of_both (IsAt l) (nat_lt b l.bricks) _ _ refl refl
 
-surveyed_stays : (l : Location) (p : Prepared) (b : BrickNo) (ranges : List (Option Range)) → IsAt l (surveyed l p b ranges)
+surveyed_stays :
+    (l : Location) (p : Prepared) (b : BrickNo) (ranges : List (Option Range))
+    → IsAt l (surveyed l p b ranges)
 surveyed_stays l p b ranges = of_both (IsAt l) (nat_le (l.bricks - b.0) 1) _ _ (aimed_stays l p (Some ranges) (holder_in ranges l.name)) refl
 
-survey_stays : (l : Location) (p : Prepared) (b : BrickNo) (ranges : List (Option Range)) (r : Reply) (at : ℕ) → StaysAt l (survey_answered l p b ranges r at)
+survey_stays :
+    (l : Location) (p : Prepared) (b : BrickNo) (ranges : List (Option Range)) (r : Reply) (at : ℕ)
+    → StaysAt l (survey_answered l p b ranges r at)
 survey_stays l p b ranges r at = of_both (StaysAt l) (shows_gone l.directory b r) _ _ refl (of_both (StaysAt l) (is_shown r) _ _ (surveyed_stays l p b (lengthened ranges (range_shown r))) refl)
 
-holder_stays : (x : Sought) (p : Prepared) (shown : Shown) (at : ℕ) → StaysAt x.location (holder_showed x p shown at)
+holder_stays :
+    (x : Sought) (p : Prepared) (shown : Shown) (at : ℕ)
+    → StaysAt x.location (holder_showed x p shown at)
 holder_stays x p (File f) at = refl
 holder_stays x p (Dir g) at = refl
 holder_stays x p (Leads b) at = refl
 holder_stays x p Nothing at = refl
 
-linked_stays : (x : Sought) (p : Prepared) (shown : Shown) (at : ℕ) → StaysAt x.location (linked_showed x p shown at)
+linked_stays :
+    (x : Sought) (p : Prepared) (shown : Shown) (at : ℕ)
+    → StaysAt x.location (linked_showed x p shown at)
 linked_stays x p (File f) at = refl
 linked_stays x p (Dir g) at = refl
 linked_stays x p (Leads b) at = refl
 linked_stays x p Nothing at = refl
 
-served_stays : (o : Option Errno) (l : Location) (layout : Option (List (Option Range))) (turn : Turn Lookup Resolved) → StaysAt l turn → StaysAt l (unless_fault o l layout turn)
+served_stays :
+    (o : Option Errno) (l : Location) (layout : Option (List (Option Range)))
+    (turn : Turn Lookup Resolved)
+    → StaysAt l turn → StaysAt l (unless_fault o l layout turn)
 served_stays None l layout turn h = h
 served_stays (Some e) l layout turn h = refl
 
@@ -82,7 +96,9 @@ found_stays : (o : Option Place) (l : Location) (h : Held) → IsAt l (found_by 
 found_stays None l h = refl
 found_stays (Some p) l h = placed_stays (held_holder h (entry_at l)) l h p
 
-section_stays : (l : Location) (turn : Turn Section Opened) (learned : Option (List (Option Range))) → StaysAt l (section_turned l turn learned)
+section_stays :
+    (l : Location) (turn : Turn Section Opened) (learned : Option (List (Option Range)))
+    → StaysAt l (section_turned l turn learned)
 section_stays l (Go m) learned = refl
 section_stays l (Done (Holding h)) learned = found_stays (file_in (held_looked h (entry_at l)).sight.what) l h
 section_stays l (Done (IsGone g at)) learned = refl
@@ -92,7 +108,8 @@ laid_stays : (o : Option Errno) (y : Misplaced) (r : Reply) → IsAt y.location 
 laid_stays None y r = of_both (IsAt y.location) (is_carried (reply_kind r)) _ _ refl refl
 laid_stays (Some e) y r = refl
 
-release_stays : (turn : Turn Release Prepared) (x : Answered) → StaysAt x.location (release_turned turn x)
+release_stays :
+    (turn : Turn Release Prepared) (x : Answered) → StaysAt x.location (release_turned turn x)
 release_stays (Go m) x = refl
 release_stays (Done p) x = refl
 
@@ -104,7 +121,9 @@ stays (LookingEverywhere l m learned) r at = section_stays l (section_after m r 
 stays (LayingLinkto y) r at = laid_stays (fault_of r) y r
 stays (Ending m x) r at = release_stays (release_after m) x
 
-to_turn : (m : Lookup) (turn : Turn Lookup Resolved) → StaysAt (lookup_location m) turn → KeepsLocation m turn
+to_turn :
+    (m : Lookup) (turn : Turn Lookup Resolved) → StaysAt (lookup_location m) turn
+    → KeepsLocation m turn
 to_turn m (Go n) h = h
 to_turn m (Done d) h = h
 

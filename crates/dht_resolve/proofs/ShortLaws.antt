@@ -27,37 +27,52 @@ use Rattle.dht_resolve.specs.declared.lookup.Sought.{Sought}
 use Rattle.dht_section.specs.declared.section.Prepared.{Prepared}
 
 -- replies in two parts
-after_parts : (turn : Turn Lookup Resolved) (xs ys : List Told) → after_all turn (xs ++ ys) ≡ after_all (after_all turn xs) ys
+after_parts :
+    (turn : Turn Lookup Resolved) (xs ys : List Told)
+    → after_all turn (xs ++ ys) ≡ after_all (after_all turn xs) ys
 after_parts (Done d) xs ys = refl
 after_parts (Go m) [] ys = refl
 after_parts (Go m) (x ∷ xs) ys = after_parts (lookup_after m x.0 x.1) xs ys
 
 -- ---- the survey
 
-answered_by : (l : Location) (o : Option Errno) (g v : Bool) (turn : Turn Lookup Resolved) (again : Lookup) (at : ℕ) → o ≡ None → g ≡ false → v ≡ true → unless_fault o l None (if g then gone l at None else (if v then turn else Go again)) ≡ turn
+answered_by :
+    (l : Location) (o : Option Errno) (g v : Bool) (turn : Turn Lookup Resolved) (again : Lookup)
+    (at : ℕ)
+    → o ≡ None → g ≡ false → v ≡ true
+    → unless_fault o l None (if g then gone l at None else (if v then turn else Go again)) ≡ turn
 answered_by l None false true turn again at z e k = refl
 answered_by l None false false turn again at z e k = absurd (let q : false ≡ true = k in cc)
 answered_by l None true v turn again at z e k = absurd (let q : true ≡ false = e in cc)
 answered_by l (Some x) g v turn again at z e k = absurd (let q : Some x ≡ None = z in cc)
 
-read_step : (l : Location) (p : Prepared) (b : ℕ) (done : List (Option Range)) (x : Told) → IsRead l b x.0 → lookup_after (Surveying l p (record { 0 = b }) done) x.0 x.1 ≡ Go (surveyed l p (record { 0 = b }) (lengthened done (range_shown x.0)))
+read_step :
+    (l : Location) (p : Prepared) (b : ℕ) (done : List (Option Range)) (x : Told) → IsRead l b x.0
+    → lookup_after (Surveying l p (record { 0 = b }) done) x.0 x.1
+    ≡ Go (surveyed l p (record { 0 = b }) (lengthened done (range_shown x.0)))
 read_step l p b done x h = answered_by l (fault_of x.0) (shows_gone l.directory (record { 0 = b }) x.0) (is_shown x.0) (Go (surveyed l p (record { 0 = b }) (lengthened done (range_shown x.0)))) (Surveying l p (record { 0 = b }) done) x.1 h.sound h.there h.shown
 
-longer : (done : List (Option Range)) (range : Option Range) → length done < 32 → lengthened done range ≡ done ++ range ∷ []
+longer :
+    (done : List (Option Range)) (range : Option Range) → length done < 32
+    → lengthened done range ≡ done ++ range ∷ []
 longer done range h = by (nat_lt (length done) 32) refl
   where
     by : (v : Bool) → nat_lt (length done) 32 ≡ v → (if v then done ++ range ∷ [] else done) ≡ done ++ range ∷ []
     by true e = refl
     by false e = absurd (grind (arith, nat_tests, h, e))
 
-last_read : (l : Location) (p : Prepared) (b : ℕ) (ranges : List (Option Range)) → b + 1 ≡ l.bricks → surveyed l p (record { 0 = b }) ranges ≡ aimed l p (Some ranges) ranges
+last_read :
+    (l : Location) (p : Prepared) (b : ℕ) (ranges : List (Option Range)) → b + 1 ≡ l.bricks
+    → surveyed l p (record { 0 = b }) ranges ≡ aimed l p (Some ranges) ranges
 last_read l p b ranges e = by (nat_le (l.bricks - b) 1) refl
   where
     by : (v : Bool) → nat_le (l.bricks - b) 1 ≡ v → (if v then aimed l p (Some ranges) ranges else Surveying l p (record { 0 = b + 1 }) ranges) ≡ aimed l p (Some ranges) ranges
     by true k = refl
     by false k = absurd (grind (arith, nat_tests, e, k))
 
-next_read : (l : Location) (p : Prepared) (b : ℕ) (ranges : List (Option Range)) → b + 1 < l.bricks → surveyed l p (record { 0 = b }) ranges ≡ Surveying l p (record { 0 = b + 1 }) ranges
+next_read :
+    (l : Location) (p : Prepared) (b : ℕ) (ranges : List (Option Range)) → b + 1 < l.bricks
+    → surveyed l p (record { 0 = b }) ranges ≡ Surveying l p (record { 0 = b + 1 }) ranges
 next_read l p b ranges e = by (nat_le (l.bricks - b) 1) refl
   where
     by : (v : Bool) → nat_le (l.bricks - b) 1 ≡ v → (if v then aimed l p (Some ranges) ranges else Surveying l p (record { 0 = b + 1 }) ranges) ≡ Surveying l p (record { 0 = b + 1 }) ranges
@@ -65,7 +80,11 @@ next_read l p b ranges e = by (nat_le (l.bricks - b) 1) refl
     by false k = refl
 
 -- after the replies of all bricks from this one on
-all_read : (l : Location) (p : Prepared) (b : ℕ) (done : List (Option Range)) (x : Told) (xs : List Told) → b + length (x ∷ xs) ≡ l.bricks → length done ≡ b → l.bricks ≤ 32 → AllRead l b (x ∷ xs) → after_all (Go (Surveying l p (record { 0 = b }) done)) (x ∷ xs) ≡ Go (aimed l p (Some (done ++ ranges_read (x ∷ xs))) (done ++ ranges_read (x ∷ xs)))
+all_read :
+    (l : Location) (p : Prepared) (b : ℕ) (done : List (Option Range)) (x : Told) (xs : List Told)
+    → b + length (x ∷ xs) ≡ l.bricks → length done ≡ b → l.bricks ≤ 32 → AllRead l b (x ∷ xs)
+    → after_all (Go (Surveying l p (record { 0 = b }) done)) (x ∷ xs)
+    ≡ Go (aimed l p (Some (done ++ ranges_read (x ∷ xs))) (done ++ ranges_read (x ∷ xs)))
 all_read l p b done x [] count room few h =
     ap (λ turn. after_all turn [])
     (read_step l p b done x h.0
@@ -85,14 +104,20 @@ all_read l p b done x (y ∷ ys) count room few h =
 abbrev sought : Location → List Told → ℕ → Sought
 sought l xs b = record { location = l; brick = record { 0 = b }; learned = Some (ranges_read xs) }
 
-aimed_found : (l : Location) (p : Prepared) (learned : Option (List (Option Range))) (o : Option ℕ) (b : ℕ) → o ≡ Some b → b < l.bricks → aimed_at l p learned o ≡ LookingAtHolder (record { location = l; brick = record { 0 = b }; learned = learned }) p
+aimed_found :
+    (l : Location) (p : Prepared) (learned : Option (List (Option Range))) (o : Option ℕ) (b : ℕ)
+    → o ≡ Some b → b < l.bricks
+    → aimed_at l p learned o
+    ≡ LookingAtHolder (record { location = l; brick = record { 0 = b }; learned = learned }) p
 aimed_found l p learned o b e within = ap (aimed_at l p learned) e ∙ by (nat_lt b l.bricks) refl
   where
     by : (v : Bool) → nat_lt b l.bricks ≡ v → (if v then LookingAtHolder (record { location = l; brick = record { 0 = b }; learned = learned }) p else LookingEverywhere l (begun p) learned) ≡ LookingAtHolder (record { location = l; brick = record { 0 = b }; learned = learned }) p
     by true k = refl
     by false k = absurd (grind (arith, nat_tests, within, k))
 
-surveys : (l : Location) (xs : List Told) (b : ℕ) → IsSurvey l xs b → after_all (Go (first_lookup l None)) xs ≡ Go (LookingAtHolder (sought l xs b) (prepared_at l))
+surveys :
+    (l : Location) (xs : List Told) (b : ℕ) → IsSurvey l xs b
+    → after_all (Go (first_lookup l None)) xs ≡ Go (LookingAtHolder (sought l xs b) (prepared_at l))
 surveys l [] b h = absurd (let none : ◌≡◌ {A = Option ℕ} None (Some b) = h.holds in cc)
 surveys l (x ∷ xs) b h =
     let each = h.each in

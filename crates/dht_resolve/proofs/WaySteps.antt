@@ -82,7 +82,9 @@ IsAway l t = IfFirst l (IsElsewhere l) t
 -- ---- before a request of one's own
 
 -- a call that is a first lookup was one
-first_before : (l : Location) (s t : Scene) (a : Ask) (r : Reply) → Guarantee s a r t → IsFirstLookup t.history t.mine (entry_at l) → IsFirstLookup s.history s.mine (entry_at l)
+first_before :
+    (l : Location) (s t : Scene) (a : Ask) (r : Reply) → Guarantee s a r t
+    → IsFirstLookup t.history t.mine (entry_at l) → IsFirstLookup s.history s.mine (entry_at l)
 first_before l s t a r m now = record {
   looks_up = sym m.mine.call ∙ now.looks_up;
   first = sym m.mine.is_first ∙ now.first;
@@ -90,7 +92,9 @@ first_before l s t a r m now = record {
 }
 
 -- a quiet request places no name
-away_moved : (l : Location) (s t : Scene) (a : Ask) (r : Reply) → IsQuiet a.request → Guarantee s a r t → IsAway l s → IsAway l t
+away_moved :
+    (l : Location) (s t : Scene) (a : Ask) (r : Reply) → IsQuiet a.request → Guarantee s a r t
+    → IsAway l s → IsAway l t
 away_moved l s t a r quiet m h now p = h (first_before l s t a r m now) (placed_before s t (entry_at l) (quiet_same s t a r quiet m) p)
 
 -- ---- at its end
@@ -100,13 +104,18 @@ away_ends : (x : Answered) (t : Scene) → IsAway x.location t → IsAtEnd x t
 away_ends x t h g e p now = absurd (h now p)
 
 -- nor is the answer of a brick that is down, failed or has no memory
-stops : (r : Reply) (t : Scene) (o : Option Errno) (l : Location) (layout : Option (List (Option Range))) (turn : Turn Lookup Resolved) → fault_of r ≡ o → (fault_of r ≡ None → Goes t turn) → Goes t (unless_fault o l layout turn)
+stops :
+    (r : Reply) (t : Scene) (o : Option Errno) (l : Location)
+    (layout : Option (List (Option Range))) (turn : Turn Lookup Resolved)
+    → fault_of r ≡ o → (fault_of r ≡ None → Goes t turn) → Goes t (unless_fault o l layout turn)
 stops r t None l layout turn z go = go z
 stops r t (Some e) l layout turn z go = λ g k. absurd (let q : answer.Fault e ≡ answer.File g = k in cc)
 
 -- ---- the survey
 
-below_more : (s : Scene) (g : Gfid) (n : ℕ) → ranges_below s.disk g (n + 1) ≡ ranges_below s.disk g n ++ range_at s.disk g n ∷ []
+below_more :
+    (s : Scene) (g : Gfid) (n : ℕ)
+    → ranges_below s.disk g (n + 1) ≡ ranges_below s.disk g n ++ range_at s.disk g n ∷ []
 unfolding ranges_below
 below_more s g n = ap (ranges_below s.disk g) (let e : n + 1 ≡ suc n = omega arith in e)
 
@@ -116,7 +125,11 @@ record HasReadAll (l : Location) (ranges : List (Option Range)) (s : Scene) : Ty
   steps : s.mine.steps ≤ length s.history.weights
   read : ranges ≡ layout_of s.disk l.directory
 
-aimed_way : (l : Location) (p : Prepared) (learned : Option (List (Option Range))) (ranges : List (Option Range)) (o : Option ℕ) (t : Scene) → holder_in ranges l.name ≡ o → IfFirst l (HasReadAll l ranges) t → OnWay (aimed_at l p learned o) t
+aimed_way :
+    (l : Location) (p : Prepared) (learned : Option (List (Option Range)))
+    (ranges : List (Option Range)) (o : Option ℕ) (t : Scene)
+    → holder_in ranges l.name ≡ o → IfFirst l (HasReadAll l ranges) t
+    → OnWay (aimed_at l p learned o) t
 aimed_way l p learned ranges o t e h = by o e
   where
     holds : (i : Option ℕ) → holder_in ranges l.name ≡ i → HasReadAll l ranges t → holder_of t.disk (entry_at l) ≡ i
@@ -138,7 +151,10 @@ aimed_way l p learned ranges o t e h = by o e
         test true q = λ now. record { steps = (h now).steps; holds = holds (Some b) k (h now) }
         test false q = outside b k q
 
-surveyed_way : (l : Location) (p : Prepared) (b : BrickNo) (ranges : List (Option Range)) (t : Scene) → Sound t → b.0 < l.bricks → t.disk.count ≡ l.bricks → IfFirst l (HasRead l (record { 0 = b.0 + 1 }) ranges) t → OnWay (surveyed l p b ranges) t
+surveyed_way :
+    (l : Location) (p : Prepared) (b : BrickNo) (ranges : List (Option Range)) (t : Scene) → Sound t
+    → b.0 < l.bricks → t.disk.count ≡ l.bricks
+    → IfFirst l (HasRead l (record { 0 = b.0 + 1 }) ranges) t → OnWay (surveyed l p b ranges) t
 surveyed_way l p b ranges t sound within count h = by (nat_le (l.bricks - b.0) 1) refl
   where
     by : (v : Bool) → nat_le (l.bricks - b.0) 1 ≡ v → OnWay (if v then aimed l p (Some ranges) ranges else Surveying l p (record { 0 = b.0 + 1 }) ranges) t
@@ -152,11 +168,17 @@ surveyed_way l p b ranges t sound within count h = by (nat_le (l.bricks - b.0) 1
     by false e = h
 
 -- a brick that is up shows the range of the directory
-shows_range : (o : Option DirRecord) (g : Gfid) (c : Contents) → range_shown (shown_reply o (λ x. given.Dirinfo (info_of c.store g x)) c) ≡ range_of o
+shows_range :
+    (o : Option DirRecord) (g : Gfid) (c : Contents)
+    → range_shown (shown_reply o (λ x. given.Dirinfo (info_of c.store g x)) c) ≡ range_of o
 shows_range None g c = refl
 shows_range (Some x) g c = refl
 
-survey_way : (l : Location) (p : Prepared) (b : BrickNo) (ranges : List (Option Range)) (r : Reply) (at : ℕ) (s t : Scene) → fault_of r ≡ None → Served (lookup_stage (Surveying l p b ranges)) r at s t → IfFirst l (HasRead l b ranges) s → Goes t (survey_answered l p b ranges r at)
+survey_way :
+    (l : Location) (p : Prepared) (b : BrickNo) (ranges : List (Option Range)) (r : Reply) (at : ℕ)
+    (s t : Scene)
+    → fault_of r ≡ None → Served (lookup_stage (Surveying l p b ranges)) r at s t
+    → IfFirst l (HasRead l b ranges) s → Goes t (survey_answered l p b ranges r at)
 survey_way l p b ranges r at s t z v h = by (shows_gone l.directory b r) (is_shown r) refl
   where
     c : Contents
@@ -203,7 +225,11 @@ survey_way l p b ranges r at s t z v h = by (shows_gone l.directory b r) (is_sho
 -- ---- the looks before any lock
 
 -- a holder that shows no file tells that the name is not placed
-missed : (x : Sought) (p : Prepared) (r : Reply) (s t : Scene) → fault_of r ≡ None → Sound s → Seeks x.location p x.brick s → Guarantee s (look_ask x) r t → ((f : Gfid) → shown_as x.location.bricks r ≡ File f → ⊥) → IfFirst x.location (HasAimed x) s → IsAway x.location t
+missed :
+    (x : Sought) (p : Prepared) (r : Reply) (s t : Scene) → fault_of r ≡ None → Sound s
+    → Seeks x.location p x.brick s → Guarantee s (look_ask x) r t
+    → ((f : Gfid) → shown_as x.location.bricks r ≡ File f → ⊥) → IfFirst x.location (HasAimed x) s
+    → IsAway x.location t
 missed x p r s t z sound seeks m nofile h now placed =
     let e : Entry = entry_at x.location in
     let was = placed_before s t e (quiet_same s t _ r tt m) placed in
@@ -215,7 +241,11 @@ missed x p r s t z sound seeks m nofile h now placed =
     ∙ (ap (λ (i : ℕ). (slot_at s.disk i e).main) (sym same)
     ∙ ap (λ (q : Slot). q.main) was.slot)))
 
-holder_way : (x : Sought) (p : Prepared) (r : Reply) (at : ℕ) (s t : Scene) (shown : Shown) → shown_as x.location.bricks r ≡ shown → fault_of r ≡ None → Served (lookup_stage (LookingAtHolder x p)) r at s t → IfFirst x.location (HasAimed x) s → Goes t (holder_showed x p shown at)
+holder_way :
+    (x : Sought) (p : Prepared) (r : Reply) (at : ℕ) (s t : Scene) (shown : Shown)
+    → shown_as x.location.bricks r ≡ shown → fault_of r ≡ None
+    → Served (lookup_stage (LookingAtHolder x p)) r at s t → IfFirst x.location (HasAimed x) s
+    → Goes t (holder_showed x p shown at)
 holder_way x p r at s t (File f) e z v h = λ g k placed now.
     (let steps = (h (first_before x.location s t _ r v.moved now)).steps in
     let one = v.moved.mine.steps in
@@ -225,11 +255,20 @@ holder_way x p r at s t (Dir d) e z v h = λ g k. absurd (let q : answer.Dir d �
 holder_way x p r at s t (Leads b) e z v h = missed x p r s t z v.before v.is_at.knows v.moved (λ f k. (let q : Leads b ≡ File f = sym e ∙ k in cc)) h
 holder_way x p r at s t Nothing e z v h = missed x p r s t z v.before v.is_at.knows v.moved (λ f k. (let q : Nothing ≡ File f = sym e ∙ k in cc)) h
 
-look_way : (x : Sought) (p : Prepared) (r : Reply) (at : ℕ) (s t : Scene) (v : Bool) → is_shown r ≡ v → fault_of r ≡ None → Served (lookup_stage (LookingAtHolder x p)) r at s t → IfFirst x.location (HasAimed x) s → Goes t (if v then holder_showed x p (shown_as x.location.bricks r) at else Go (LookingAtHolder x p))
+look_way :
+    (x : Sought) (p : Prepared) (r : Reply) (at : ℕ) (s t : Scene) (v : Bool) → is_shown r ≡ v
+    → fault_of r ≡ None → Served (lookup_stage (LookingAtHolder x p)) r at s t
+    → IfFirst x.location (HasAimed x) s
+    → Goes t
+    (if v
+    then holder_showed x p (shown_as x.location.bricks r) at
+    else Go (LookingAtHolder x p))
 look_way x p r at s t true e z v h = holder_way x p r at s t (shown_as x.location.bricks r) refl z v h
 look_way x p r at s t false e z v h = absurd (exclude (is_shown r) (look_answered (entry_at x.location) x.brick s t r z v.moved) e)
 
-linked_way : (x : Sought) (p : Prepared) (at : ℕ) (t : Scene) (shown : Shown) → IsAway x.location t → Goes t (linked_showed x p shown at)
+linked_way :
+    (x : Sought) (p : Prepared) (at : ℕ) (t : Scene) (shown : Shown) → IsAway x.location t
+    → Goes t (linked_showed x p shown at)
 linked_way x p at t (File f) h = λ g k placed now. absurd (h now placed)
 linked_way x p at t (Dir d) h = λ g k placed now. absurd (h now placed)
 linked_way x p at t (Leads b) h = h
@@ -237,15 +276,20 @@ linked_way x p at t Nothing h = h
 
 -- ---- the section
 
-placed_way : (o : Option ℕ) (l : Location) (k : Held) (p : Place) (t : Scene) → IsAway l t → OnWay (placed_by o l k p) t
+placed_way :
+    (o : Option ℕ) (l : Location) (k : Held) (p : Place) (t : Scene) → IsAway l t
+    → OnWay (placed_by o l k p) t
 placed_way None l k p t h = h
 placed_way (Some b) l k p t h = of_both (λ n. OnWay n t) (wants_linkto l k b p) _ _ h h
 
-found_way : (o : Option Place) (l : Location) (k : Held) (t : Scene) → IsAway l t → OnWay (found_by o l k) t
+found_way :
+    (o : Option Place) (l : Location) (k : Held) (t : Scene) → IsAway l t → OnWay (found_by o l k) t
 found_way None l k t h = h
 found_way (Some p) l k t h = placed_way (held_holder k (entry_at l)) l k p t h
 
-section_way : (l : Location) (turn : Turn Section Opened) (learned : Option (List (Option Range))) (t : Scene) → IsAway l t → Goes t (section_turned l turn learned)
+section_way :
+    (l : Location) (turn : Turn Section Opened) (learned : Option (List (Option Range))) (t : Scene)
+    → IsAway l t → Goes t (section_turned l turn learned)
 section_way l (Go m) learned t h = h
 section_way l (Done (Holding k)) learned t h = found_way (file_in (held_looked k (entry_at l)).sight.what) l k t h
 section_way l (Done (IsGone g at)) learned t h = λ f k placed now. absurd (h now placed)
@@ -254,16 +298,27 @@ section_way l (Done (IsStopped e)) learned t h = λ f k placed now. absurd (h no
 -- ---- the linkto, and the release
 
 -- a linkto leaves the directories
-slot_leaves : (d : Gfid) (n value : List ℕ) (c : Contents) (o : Option Slot) → (left_by (within (with_store c) (on_slot (MakeLinkto d n value) c.store (d, n) o)) c).store.dirs ≡ c.store.dirs
+slot_leaves :
+    (d : Gfid) (n value : List ℕ) (c : Contents) (o : Option Slot)
+    → (left_by (within (with_store c) (on_slot (MakeLinkto d n value) c.store (d, n) o)) c).store.dirs
+    ≡ c.store.dirs
 slot_leaves d n value c None = refl
 slot_leaves d n value c (Some x) = refl
 
-linkto_leaves : (bricks : List (List ℕ)) (d : Gfid) (n value : List ℕ) (c : Contents) (o : Option DirRecord) → (left_by (within (with_store c) (in_dir o (λ x. slot_change bricks (MakeLinkto d n value) c.store (d, n)))) c).store.dirs ≡ c.store.dirs
+linkto_leaves :
+    (bricks : List (List ℕ)) (d : Gfid) (n value : List ℕ) (c : Contents) (o : Option DirRecord)
+    → (left_by
+    (within (with_store c)
+    (in_dir o (λ x. slot_change bricks (MakeLinkto d n value) c.store (d, n))))
+    c).store.dirs
+    ≡ c.store.dirs
 linkto_leaves bricks d n value c None = refl
 linkto_leaves bricks d n value c (Some x) = slot_leaves d n value c (slot_row bricks c.store (MakeLinkto d n value) (slot c.store (d, n)))
 
 -- the file is still not on the name's holder
-still_away : (y : Misplaced) (r : Reply) (s t : Scene) → Sound s → IsMisplaced y s → Guarantee s (linkto_ask y) r t → IsElsewhere y.location t
+still_away :
+    (y : Misplaced) (r : Reply) (s t : Scene) → Sound s → IsMisplaced y s
+    → Guarantee s (linkto_ask y) r t → IsElsewhere y.location t
 still_away y r s t sound h m placed =
     let same : placed.brick ≡ y.holder.0 = (let q : Some placed.brick ≡ Some y.holder.0 = sym placed.holds ∙ (holder ∙ held_holder_is l y.held y.holder.0 s sound h.held h.holds) in cc) in
     let bare = placed.alone y.place.brick.0 there (λ q. h.apart (sym (q ∙ same))) in
@@ -288,17 +343,23 @@ still_away y r s t sound h m placed =
     there : y.place.brick.0 < t.disk.count
     there = (let fits : y.place.brick.0 < s.disk.count = (misplaced_stands y s h).fits in let count = m.disk.count in omega arith)
 
-laid_way : (o : Option Errno) (y : Misplaced) (r : Reply) (t : Scene) → IsAway y.location t → OnWay (laid_by o y r) t
+laid_way :
+    (o : Option Errno) (y : Misplaced) (r : Reply) (t : Scene) → IsAway y.location t
+    → OnWay (laid_by o y r) t
 laid_way None y r t h = of_both (λ n. OnWay n t) (is_carried (reply_kind r)) _ _ h h
 laid_way (Some e) y r t h = h
 
-release_way : (turn : Turn Release Prepared) (x : Answered) (t : Scene) → IsAway x.location t → Goes t (release_turned turn x)
+release_way :
+    (turn : Turn Release Prepared) (x : Answered) (t : Scene) → IsAway x.location t
+    → Goes t (release_turned turn x)
 release_way (Go m) x t h = h
 release_way (Done p) x t h = away_ends x t h
 
 -- ---- all of it
 
-pub way_next : (m : Lookup) (r : Reply) (at : ℕ) (s t : Scene) → Served (lookup_stage m) r at s t → OnWay m s → MatchTurn (lookup_after m r at) (λ n. OnWay n t) (λ d. IsAtEnd d.answered t)
+pub way_next :
+    (m : Lookup) (r : Reply) (at : ℕ) (s t : Scene) → Served (lookup_stage m) r at s t → OnWay m s
+    → MatchTurn (lookup_after m r at) (λ n. OnWay n t) (λ d. IsAtEnd d.answered t)
 way_next (Surveying l p b ranges) r at s t v h = stops r t (fault_of r) l None (survey_answered l p b ranges r at) refl (λ z. survey_way l p b ranges r at s t z v h)
 way_next (LookingAtHolder x p) r at s t v h = stops r t (fault_of r) x.location x.learned (holder_looked x p r at) refl (λ z. look_way x p r at s t (is_shown r) refl z v h)
 way_next (FollowingLinkto x p) r at s t v h =
@@ -314,6 +375,8 @@ nothing_read : (l : Location) (s : Scene) → [] ≡ ranges_below s.disk l.direc
 unfolding ranges_below
 nothing_read l s = refl
 
-pub way_first : (l : Location) (known : Option (List (Option Range))) (s : Scene) → s.mine.steps ≡ 0 → (s.mine.is_first ≡ true → known ≡ None) → OnWay (first_lookup l known) s
+pub way_first :
+    (l : Location) (known : Option (List (Option Range))) (s : Scene) → s.mine.steps ≡ 0
+    → (s.mine.is_first ≡ true → known ≡ None) → OnWay (first_lookup l known) s
 way_first l None s none first = λ now. record { steps = omega arith; read = nothing_read l s }
 way_first l (Some ranges) s none first = aimed_way l (prepared_at l) None ranges (holder_in ranges l.name) s refl (λ now. absurd (let z : Some ranges ≡ None = first now.first in cc))

@@ -1,5 +1,5 @@
--- The way of a client's first lookup that is alone: the range of each brick is read, and then the name's
--- holder shows the file; or the name is not placed.
+-- The way of a client's first lookup that is alone: the range of each brick is
+-- read, and then the name's holder shows the file; or the name is not placed.
 use Rattle.std.specs.Prelude.{◌+◌, ◌≤◌, ◌≡◌, Option, Some, List, length}
 use Rattle.dht_types.specs.declared.calls.Answer.TheVariants.{File}
 use Rattle.dht_types.specs.declared.identifiers.BrickNo.{BrickNo}
@@ -21,7 +21,8 @@ abbrev pub IfFirst : Location → (Scene → Type 0) → Scene → Type 0
 IfFirst l P s = IsFirstLookup s.history s.mine (entry_at l) → P s
 
 -- the bricks below this one have shown their ranges, which these are, each in one step
-pub record HasRead (l : Location) (b : BrickNo) (ranges : List (Option Range)) (s : Scene) : Type 0 where
+pub record HasRead (l : Location) (b : BrickNo) (ranges : List (Option Range)) (s : Scene)
+    : Type 0 where
   pub steps : s.mine.steps ≤ b.0
   pub read : ranges ≡ ranges_below s.disk l.directory b.0
 
@@ -43,7 +44,8 @@ OnWay (LookingEverywhere l m learned) s = IfFirst l (IsElsewhere l) s
 OnWay (LayingLinkto y) s = IfFirst y.location (IsElsewhere y.location) s
 OnWay (Ending m x) s = IfFirst x.location (IsElsewhere x.location) s
 
--- and at its end: if it answers a file that is placed, it took one step more than there are bricks at most
+-- and at its end: if it answers a file that is placed,
+-- it took one step more than there are bricks at most
 abbrev pub IsAtEnd : Answered → Scene → Type 0
 IsAtEnd x s =
     (g : Gfid) → x.finish.answer ≡ File g → Placed s.disk (entry_at x.location)

@@ -25,15 +25,19 @@ use Rattle.dht_resolve.specs.declared.lookup.Lookup.TheVariants.{Surveying, Look
 -- ---- where nothing changed
 
 -- the ranges that were read
-pub same_below : (s t : Scene) (g : Gfid) (n : ℕ) → StoresTheSame s t → ranges_below t.disk g n ≡ ranges_below s.disk g n
+pub same_below :
+    (s t : Scene) (g : Gfid) (n : ℕ) → StoresTheSame s t
+    → ranges_below t.disk g n ≡ ranges_below s.disk g n
 same_below s t g n h = ranges_kept s.disk t.disk g (λ b. same_dir s t b g h) n
 
 -- the holder of a name
-pub same_holder : (s t : Scene) (e : Entry) → StoresTheSame s t → holder_of t.disk e ≡ holder_of s.disk e
+pub same_holder :
+    (s t : Scene) (e : Entry) → StoresTheSame s t → holder_of t.disk e ≡ holder_of s.disk e
 same_holder s t e h = ap (λ (xs : List (Option Range)). holder xs (dm e.1)) (same_layout s t e.0 h)
 
 -- and a name that is placed was placed
-pub placed_before : (s t : Scene) (e : Entry) → StoresTheSame s t → Placed t.disk e → Placed s.disk e
+pub placed_before :
+    (s t : Scene) (e : Entry) → StoresTheSame s t → Placed t.disk e → Placed s.disk e
 placed_before s t e h p =
     let count = h.count in
     let there = p.there in
@@ -50,7 +54,9 @@ placed_before s t e h p =
 -- ---- what others leave
 
 -- what holds of a first lookup
-first_stable : (l : Location) (P : Scene → Type 0) (s t : Scene) → (StoresTheSame s t → P s → P t) → IfFirst l P s → Rely s t → IfFirst l P t
+first_stable :
+    (l : Location) (P : Scene → Type 0) (s t : Scene) → (StoresTheSame s t → P s → P t)
+    → IfFirst l P s → Rely s t → IfFirst l P t
 first_stable l P s t stays h o now = stays (alone_same s t o now.alone) (h was_first)
   where
     was_first : IsFirstLookup s.history s.mine (entry_at l)
@@ -60,10 +66,13 @@ first_stable l P s t stays h o now = stays (alone_same s t o now.alone) (h was_f
       alone = (o.still now.alone).before;
     }
 
-elsewhere_stable : (l : Location) (s t : Scene) → IfFirst l (IsElsewhere l) s → Rely s t → IfFirst l (IsElsewhere l) t
+elsewhere_stable :
+    (l : Location) (s t : Scene) → IfFirst l (IsElsewhere l) s → Rely s t
+    → IfFirst l (IsElsewhere l) t
 elsewhere_stable l s t h o = first_stable l (IsElsewhere l) s t (λ same away p. away (placed_before s t (entry_at l) same p)) h o
 
-pub way_stable : (m : Lookup) (s t : Scene) → OnWay m s → Rely s t → t.mine.steps ≡ s.mine.steps → OnWay m t
+pub way_stable :
+    (m : Lookup) (s t : Scene) → OnWay m s → Rely s t → t.mine.steps ≡ s.mine.steps → OnWay m t
 way_stable (Surveying l p b ranges) s t h o steps =
     first_stable l (HasRead l b ranges) s t
     (λ same k. (let few = k.steps in record {

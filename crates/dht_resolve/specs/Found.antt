@@ -1,4 +1,5 @@
--- What one look shows of a name, and that it is answered at once where it shows a file or a directory.
+-- What one look shows of a name, and that it is answered
+-- at once where it shows a file or a directory.
 use Rattle.std.specs.Prelude.{ℕ, ◌≡◌, Option, Some, None, List, [], ◌∷◌}
 use Rattle.dht_types.specs.Linkto.{linked_brick}
 use Rattle.dht_types.specs.Volume.{replay_names}

@@ -136,8 +136,8 @@ pub record Seeks (l : Location) (p : Prepared) (b : BrickNo) (s : Scene) : Type 
   pub waits : Waits l p s
   pub within : b.0 < l.bricks
 
--- the section is that of the name; what stopped it, if it was stopped, is an error of a brick; and the
--- call has done no step
+-- the section is that of the name; what stopped it, if it was
+-- stopped, is an error of a brick; and the call has done no step
 pub record Secures (l : Location) (m : Section) (s : Scene) : Type 0 where
   pub scope : section_scope m ≡ scope_at l
   pub fault : part_fault (section_fault m) ≡ section_fault m
@@ -159,7 +159,10 @@ pub record Answers (m : Release) (x : Answered) (s : Scene) : Type 0 where
 -- ---- where it is
 
 abbrev pub look_ask : Sought → Ask
-look_ask x = record { brick = x.brick; request = OnNames (Look x.location.directory x.location.name) }
+look_ask x = record {
+  brick = x.brick;
+  request = OnNames (Look x.location.directory x.location.name);
+}
 
 -- the linkto names the file's brick
 abbrev pub linkto_ask : Misplaced → Ask
@@ -212,8 +215,10 @@ lookup_layout (LookingEverywhere l m learned) = learned
 lookup_layout (LayingLinkto y) = Some (held_layout y.held (entry_at y.location))
 lookup_layout (Ends m x) = x.layout
 
--- what a reply to the survey teaches, with the ranges so far: every brick has shown its range, and the directory is there
-abbrev pub survey_taught : (gone shown : Bool) → Location → BrickNo → List (Option Range) → Option (List (Option Range))
+-- what a reply to the survey teaches, with the ranges so far:
+-- every brick has shown its range, and the directory is there
+abbrev pub survey_taught :
+    (gone shown : Bool) → Location → BrickNo → List (Option Range) → Option (List (Option Range))
 survey_taught true shown l b ranges = None
 survey_taught false false l b ranges = None
 survey_taught false true l b ranges = if nat_le (l.bricks - b.0) 1 then Some ranges else None
@@ -227,7 +232,8 @@ lookup_taught m r = None
 
 -- ---- its beginning
 
--- a lookup by a layout, learned or known: it looks at the holder, if a brick of the volume is one, and else at all bricks
+-- a lookup by a layout, learned or known: it looks at the holder,
+-- if a brick of the volume is one, and else at all bricks
 abbrev pub aimed_at : Location → Prepared → Option (List (Option Range)) → Option ℕ → Lookup
 aimed_at l p learned None = LookingEverywhere l (begun p) learned
 aimed_at l p learned (Some b) =
@@ -239,7 +245,8 @@ abbrev pub aimed : Location → Prepared → Option (List (Option Range)) → Li
 aimed l p learned ranges = aimed_at l p learned (holder_in ranges l.name)
 
 -- a lookup with this memory by this layout, if there is one; the call has learned this
-abbrev pub lookup_with : Prepared → Location → (layout learned : Option (List (Option Range))) → Lookup
+abbrev pub lookup_with :
+    Prepared → Location → (layout learned : Option (List (Option Range))) → Lookup
 lookup_with p l None learned = Surveying l p (record { 0 = 0 }) []
 lookup_with p l (Some ranges) learned = aimed l p learned ranges
 

@@ -52,19 +52,24 @@ use Rattle.dht_section.specs.declared.section.Prepared.{Prepared}
 -- ---- the bricks that it asks
 
 -- the volume has as many bricks as the name's section is for
-pub room_count : (l : Location) (p : Prepared) (s : Scene) → Sound s → IsRoom l p s → s.disk.count ≡ l.bricks
+pub room_count :
+    (l : Location) (p : Prepared) (s : Scene) → Sound s → IsRoom l p s → s.disk.count ≡ l.bricks
 room_count l p s sound h = bricks_are p.scope s sound h.can.fresh.scope ∙ ap (λ (w : Scoped). w.bricks) h.scope
 
-pub seeks_there : (l : Location) (p : Prepared) (b : BrickNo) (s : Scene) → Sound s → Seeks l p b s → b.0 < s.disk.count
+pub seeks_there :
+    (l : Location) (p : Prepared) (b : BrickNo) (s : Scene) → Sound s → Seeks l p b s
+    → b.0 < s.disk.count
 seeks_there l p b s sound h =
     let count = room_count l p s sound h.waits in
     let within = h.within in
     omega arith
 
-held_bricks : (y : Misplaced) (s : Scene) → Sound s → IsMisplaced y s → s.disk.count ≡ y.held.scope.bricks
+held_bricks :
+    (y : Misplaced) (s : Scene) → Sound s → IsMisplaced y s → s.disk.count ≡ y.held.scope.bricks
 held_bricks y s sound h = bricks_are y.held.scope s sound h.held.held.fresh.scope
 
-pub holder_there : (y : Misplaced) (s : Scene) → Sound s → IsMisplaced y s → y.holder.0 < s.disk.count
+pub holder_there :
+    (y : Misplaced) (s : Scene) → Sound s → IsMisplaced y s → y.holder.0 < s.disk.count
 holder_there y s sound h =
     let l = y.location in
     let bricks = held_bricks y s sound h in
@@ -80,11 +85,15 @@ file_plain Absent p e = tt
 file_plain (what.Dir g) p e = absurd (let z : None ≡ Some p = e in cc)
 file_plain (what.File f b links) p e = tt
 
-pub misplaced_stands : (y : Misplaced) (s : Scene) → IsMisplaced y s → NameStands s (entry_at y.location) (Plain y.place.brick.0 y.place.file)
+pub misplaced_stands :
+    (y : Misplaced) (s : Scene) → IsMisplaced y s
+    → NameStands s (entry_at y.location) (Plain y.place.brick.0 y.place.file)
 misplaced_stands y s h = subst (λ (o : Option Place). NameStands s (entry_at y.location) (found_shape o)) h.file
     (stands_found (entry_at y.location) _ s (file_plain _ y.place h.file) (looked_is y.location y.held s h.held).stands)
 
-pub misplaced_name : (y : Misplaced) (s : Scene) → IsMisplaced y s → name_at s.disk y.place.brick.0 (entry_at y.location) ≡ Some y.place.file
+pub misplaced_name :
+    (y : Misplaced) (s : Scene) → IsMisplaced y s
+    → name_at s.disk y.place.brick.0 (entry_at y.location) ≡ Some y.place.file
 misplaced_name y s h =
     let stands = misplaced_stands y s h in
     name_stands_at s (entry_at y.location) (Plain y.place.brick.0 y.place.file) y.place.brick.0 stands.fits stands
@@ -110,7 +119,11 @@ value_fits count b within few =
 -- ---- what it may ask
 
 -- the name stays the file's
-lays_linkto : (y : Misplaced) (s : Scene) → Sound s → IsMisplaced y s → Changes s y.holder.0 (MakeLinkto y.location.directory y.location.name (linkto_value (replay_names y.location.bricks) y.place.brick.0))
+lays_linkto :
+    (y : Misplaced) (s : Scene) → Sound s → IsMisplaced y s
+    → Changes s y.holder.0
+    (MakeLinkto y.location.directory y.location.name
+    (linkto_value (replay_names y.location.bricks) y.place.brick.0))
 lays_linkto y s sound h =
     let stands = misplaced_stands y s h in
     let bricks = held_bricks y s sound h in
@@ -138,7 +151,9 @@ lookup_permitted (Ending m x) s sound h = part_permitted (release_stage m) 0 (λ
 -- ---- what others leave
 
 -- what the tree has at a name
-pub still_same : (l : Location) (a : Answer) (s t : Scene) → t.history.tree ≡ s.history.tree → IsStillSo l a s → IsStillSo l a t
+pub still_same :
+    (l : Location) (a : Answer) (s t : Scene) → t.history.tree ≡ s.history.tree → IsStillSo l a s
+    → IsStillSo l a t
 still_same l (answer.Dir g) s t same h = ap (λ (p : Tree). p.names (entry_at l)) same ∙ h
 still_same l (answer.File f) s t same h = tt
 still_same l (answer.Made g) s t same h = tt
@@ -156,13 +171,17 @@ answered_stable x s t h o = record {
 }
 
 -- and memory may be used still
-pub room_stable : (l : Location) (p : Prepared) (s t : Scene) → IsRoom l p s → Rely s t → IsRoom l p t
+pub room_stable :
+    (l : Location) (p : Prepared) (s t : Scene) → IsRoom l p s → Rely s t → IsRoom l p t
 room_stable l p s t h o = record { scope = h.scope; can = can_begin_stable p s t h.can o }
 
-seeks_stable : (l : Location) (p : Prepared) (b : BrickNo) (s t : Scene) → Seeks l p b s → Rely s t → Seeks l p b t
+seeks_stable :
+    (l : Location) (p : Prepared) (b : BrickNo) (s t : Scene) → Seeks l p b s → Rely s t
+    → Seeks l p b t
 seeks_stable l p b s t h o = record { waits = room_stable l p s t h.waits o; within = h.within }
 
-answers_stable : (m : Release) (x : Answered) (s t : Scene) → Answers m x s → Rely s t → Answers m x t
+answers_stable :
+    (m : Release) (x : Answered) (s t : Scene) → Answers m x s → Rely s t → Answers m x t
 answers_stable m x s t h o = record { right = answered_stable x s t h.right o; scope = h.scope }
 
 pub lookup_stable : (m : Lookup) → IsStable (lookup_stage m)

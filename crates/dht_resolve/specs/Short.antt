@@ -1,4 +1,5 @@
--- How few requests a first lookup sends where the name's holder shows the file, or a linkto to its brick.
+-- How few requests a first lookup sends where the name's
+-- holder shows the file, or a linkto to its brick.
 use Rattle.std.specs.Prelude.{ℕ, ◌+◌, ◌≤◌, ◌≡◌, true, false, Option, Some, None, List, [], ◌∷◌, ◌++◌, length, map}
 use Rattle.dht_types.specs.Linkto.{linked_brick}
 use Rattle.dht_types.specs.Volume.{replay_names}
@@ -43,7 +44,8 @@ AllRead l b (x ∷ xs) = IsRead l b x.0 × AllRead l (b + 1) xs
 abbrev pub ranges_read : List Told → List (Option Range)
 ranges_read xs = map (λ x. range_shown x.0) xs
 
--- all bricks were asked for the directory's record, and by what they showed this one is the name's holder
+-- all bricks were asked for the directory's record, and
+-- by what they showed this one is the name's holder
 pub record IsSurvey (l : Location) (xs : List Told) (b : ℕ) : Type 0 where
   pub few : l.bricks ≤ 32
   pub each : length xs ≡ l.bricks
@@ -67,7 +69,9 @@ FindsAtHolder = (l : Location) (xs : List Told) (b : ℕ) (f : Gfid) (look : Rep
 
 -- and two more, where the holder shows a linkto to the file's brick
 abbrev pub FindsByLinkto : Type 0
-FindsByLinkto = (l : Location) (xs : List Told) (b c : ℕ) (value : List ℕ) (f : Gfid) (link look : Reply) (i at : ℕ)
+FindsByLinkto =
+    (l : Location) (xs : List Told) (b c : ℕ) (value : List ℕ) (f : Gfid) (link look : Reply)
+    (i at : ℕ)
     → IsSurvey l xs b → main_shown link ≡ Some (Linkto value)
     → linked_brick (replay_names l.bricks) value ≡ Some c → file_shown look ≡ Some f
     → EndsWith l (xs ++ (link, i) ∷ (look, at) ∷ []) f at c (ranges_read xs)

@@ -70,14 +70,16 @@ unless_fault (Some e) l layout turn = stopped l e layout
 
 -- ---- the survey
 
--- a brick showed the directory's range, with the ranges so far: the next is asked, or all have shown it
+-- a brick showed the directory's range, with the ranges
+-- so far: the next is asked, or all have shown it
 abbrev pub surveyed : Location → Prepared → BrickNo → List (Option Range) → Lookup
 surveyed l p b ranges =
     if nat_le (l.bricks - b.0) 1
     then aimed l p (Some ranges) ranges
     else Surveying l p (record { 0 = b.0 + 1 }) ranges
 
-abbrev pub survey_answered : Location → Prepared → BrickNo → List (Option Range) → Reply → ℕ → Turn Lookup Resolved
+abbrev pub survey_answered :
+    Location → Prepared → BrickNo → List (Option Range) → Reply → ℕ → Turn Lookup Resolved
 survey_answered l p b ranges r at =
     if shows_gone l.directory b r
     then gone l at None
@@ -160,7 +162,8 @@ opened l learned (Holding h) = Go (looked_up l h)
 opened l learned (IsGone g at) = gone l at learned
 opened l learned (IsStopped e) = stopped l e learned
 
-abbrev pub section_turned : Location → Turn Section Opened → Option (List (Option Range)) → Turn Lookup Resolved
+abbrev pub section_turned :
+    Location → Turn Section Opened → Option (List (Option Range)) → Turn Lookup Resolved
 section_turned l (Go m) learned = Go (LookingEverywhere l m learned)
 section_turned l (Done out) learned = opened l learned out
 

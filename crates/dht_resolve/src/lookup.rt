@@ -70,8 +70,8 @@ pub enum Shown {
     Leads(BrickNo),
 }
 
-/// A name that is looked for, the brick that is looked at next, and the layout that was read, if the
-/// range of every brick was.
+/// A name that is looked for, the brick that is looked at next, and the layout that was read, if
+/// the range of every brick was.
 #[derive(Clone, Copy)]
 pub struct Sought {
     pub location: Location,
@@ -603,8 +603,8 @@ impl Machine for Lookup {
 }
 
 /// A first lookup, by a client that knows no layout, sends one request more than there are bricks
-/// where the name's holder shows the file, and two more where it shows a linkto to the file's brick:
-/// these are laws for callers, and do nothing.
+/// where the name's holder shows the file, and two more where it shows a linkto to the file's
+/// brick: these are laws for callers, and do nothing.
 pub fn a_first_lookup_is_short()
     ensures at_holder { FindsAtHolder }
     ensures by_linkto { FindsByLinkto }

@@ -110,8 +110,8 @@ impl Bricks {
         }
     }
 
-    /// The other client gets a lock of the root or of a name in it, which nobody holds, and gives it
-    /// back.
+    /// The other client gets a lock of the root or of a name in it, which nobody holds, and gives
+    /// it back.
     pub fn is_free(&mut self, key: &Key) -> Result<(), Fail> {
         let anchor = BrickNo(0);
         self.given(anchor, Request::Lock(*key, Mode::Exclusive))?;

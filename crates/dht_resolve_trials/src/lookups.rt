@@ -1,5 +1,5 @@
-//! Lookups of a file's name, over volumes of one to five bricks: with the file on the name's holder,
-//! and away from it.
+//! Lookups of a file's name, over volumes of one to five bricks: with the file on the name's
+//! holder, and away from it.
 
 use crate::bricks::{Bricks, Ended};
 use dht_brick::requests::NameRequest;
@@ -191,9 +191,9 @@ fn assert_kept(
     bricks.is_free(&Key::Entry(Gfid::ROOT, trial.name()))
 }
 
-/// With a linkto of this value at the holder, or none, a first lookup finds the file under the locks,
-/// after it has looked at so many bricks before them; and it lays a linkto there, which leads the next
-/// lookup to the file.
+/// With a linkto of this value at the holder, or none, a first lookup finds the file under the
+/// locks, after it has looked at so many bricks before them; and it lays a linkto there, which
+/// leads the next lookup to the file.
 fn assert_searched(
     rt: &(impl Abort + AllocGlobal),
     trial: &Trial,
@@ -264,8 +264,8 @@ fn a_linkto_comes_where_none_is(rt: HostRuntime) -> Result<(), Fail> {
     Ok(())
 }
 
-/// The memory of a first lookup, and the layout that it has read, serve another, which finds the file
-/// with its last of so many requests.
+/// The memory of a first lookup, and the layout that it has read, serve another, which finds the
+/// file with its last of so many requests.
 fn assert_again(
     rt: &(impl Abort + AllocGlobal),
     trial: &Trial,

@@ -14,7 +14,11 @@ use Rattle.dht_run.specs.Outside.{after_told}
 use Rattle.dht_run.specs.SoFar.{Wrote}
 
 -- all its lines were written
-pub event_wrote : {B C : Type 0} (b : BrickGhosts B) (c : CallerGhosts C) (old new : World B C) (n : ℕ) (event : Event) (past before after : List Line) (taken told : Option (List ℕ)) → before ≡ [] → Adds b c old new n event past before after → ¬ IsSpent (history_of past) event → told ≡ after_told taken (lines_text after)
+pub event_wrote :
+    {B C : Type 0} (b : BrickGhosts B) (c : CallerGhosts C) (old new : World B C) (n : ℕ)
+    (event : Event) (past before after : List Line) (taken told : Option (List ℕ))
+    → before ≡ [] → Adds b c old new n event past before after → ¬ IsSpent (history_of past) event
+    → told ≡ after_told taken (lines_text after)
     → (lines : List Line) × Wrote b c old new n event past lines taken told (lines_text lines)
 event_wrote b c old new n event past before after taken told empty adds unspent written = (
   adds.0,

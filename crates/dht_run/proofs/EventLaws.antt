@@ -22,14 +22,20 @@ pub no_newline : (xs : List ℕ) → ¬ Contains xs 10 → HasNoNewline xs
 no_newline xs h = λ k d lt e. h (k, lt, within_any xs k 10 d lt ∙ e)
 
 -- an input that does not go on with a line does not go on with an event's
-pub no_event : (cut : ℕ) (input : List ℕ) → ((o : Event) → IsScheduled o → IsOneLine (schedule_text o)) → HasNoLine cut input → HasNoEvent cut input
+pub no_event :
+    (cut : ℕ) (input : List ℕ) → ((o : Event) → IsScheduled o → IsOneLine (schedule_text o))
+    → HasNoLine cut input → HasNoEvent cut input
 no_event cut input one h = record {
   goes_on = h.goes_on;
   no_event = λ e more s eq l. (let o = one e s in let short = o.short in h.no_line (schedule_text e) more eq (no_newline (schedule_text e) o.one) (omega arith, omega arith));
 }
 
 -- nor does one whose line is of no event
-pub other_line : (cut : ℕ) (line : List ℕ) (input after : Option (List ℕ)) → ((o : Event) → IsScheduled o → IsOneLine (schedule_text o)) → HasNoNewline line → ((o : Event) → IsScheduled o → line ≢ schedule_text o) → input ≡ before_told (line ++ 10 ∷ []) after → IfSome input (HasNoEvent cut)
+pub other_line :
+    (cut : ℕ) (line : List ℕ) (input after : Option (List ℕ))
+    → ((o : Event) → IsScheduled o → IsOneLine (schedule_text o)) → HasNoNewline line
+    → ((o : Event) → IsScheduled o → line ≢ schedule_text o)
+    → input ≡ before_told (line ++ 10 ∷ []) after → IfSome input (HasNoEvent cut)
 other_line cut line input None one h not eq = subst (λ (o : Option (List ℕ)). IfSome o (HasNoEvent cut)) (sym eq) tt
 other_line cut line input (Some more) one h not eq = subst (λ (o : Option (List ℕ)). IfSome o (HasNoEvent cut)) (sym eq) (record {
   goes_on = λ q. absurd (let z : length ((line ++ 10 ∷ []) ++ more) ≡ 0 = ap length q in omega (arith, length-append (line ++ 10 ∷ []) more, length-append line (10 ∷ [])));
@@ -49,6 +55,9 @@ only_one (Down b) e q = cc
 only_one (Up b) e q = cc
 only_one (Die c) e q = cc
 
-pub no_event_told : (cut : ℕ) (input : Option (List ℕ)) → ((o : Event) → IsScheduled o → IsOneLine (schedule_text o)) → IfSome input (HasNoLine cut) → IfSome input (HasNoEvent cut)
+pub no_event_told :
+    (cut : ℕ) (input : Option (List ℕ))
+    → ((o : Event) → IsScheduled o → IsOneLine (schedule_text o)) → IfSome input (HasNoLine cut)
+    → IfSome input (HasNoEvent cut)
 no_event_told cut None one h = tt
 no_event_told cut (Some bytes) one h = no_event cut bytes one h

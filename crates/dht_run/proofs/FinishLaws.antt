@@ -28,11 +28,15 @@ take_behind [] ys n = ap (λ m. take m ys) (omega arith)
 take_behind (x ∷ xs) ys n = (let e : length (x ∷ xs) + n ≡ suc (length xs + n) = omega arith in ap (λ m. take m (x ∷ (xs ++ ys))) e ∙ ap (λ zs. x ∷ zs) (take_behind xs ys n))
 
 -- a text, and then a prefix of another
-pub written_prefix : (before taken new : Option (List ℕ)) (xs ys : List ℕ) (n : ℕ) → taken ≡ after_told before xs → new ≡ after_told taken (take n ys) → new ≡ after_told before (take (length xs + n) (xs ++ ys))
+pub written_prefix :
+    (before taken new : Option (List ℕ)) (xs ys : List ℕ) (n : ℕ) → taken ≡ after_told before xs
+    → new ≡ after_told taken (take n ys) → new ≡ after_told before (take (length xs + n) (xs ++ ys))
 written_prefix before taken new xs ys n first second = second ∙ (ap (λ t. after_told t (take n ys)) first ∙ (after_told-after_told before xs (take n ys) ∙ ap (after_told before) (sym (take_behind xs ys n))))
 
 -- a text, and then another
-pub written_all : (before taken new : Option (List ℕ)) (xs ys : List ℕ) → taken ≡ after_told before xs → new ≡ after_told taken ys → new ≡ after_told before (xs ++ ys)
+pub written_all :
+    (before taken new : Option (List ℕ)) (xs ys : List ℕ) → taken ≡ after_told before xs
+    → new ≡ after_told taken ys → new ≡ after_told before (xs ++ ys)
 written_all before taken new xs ys first second = second ∙ (ap (λ t. after_told t ys) first ∙ after_told-after_told before xs ys)
 
 -- a running call sends another request
@@ -40,7 +44,12 @@ abbrev pub GoesOn : {C : Type 0} → CallerGhosts C → Type 0
 GoesOn {C = C} c = (x : C) → c.is_busy x ≡ true → 0 < (c.stage x).variant
 
 -- what was carried out, over the bricks of a world that is where these lines lead to
-done_by : {B C : Type 0} (b : BrickGhosts B) (c : CallerGhosts C) → GoesOn c → (w v : World B C) (count : ℕ) (text rest : Option (List ℕ)) (events : List Event) (lines : List Line) → Carried b c w count text rest events lines → IsLed b c v lines → CarriedOut b.state v.bricks.items text rest events lines
+done_by :
+    {B C : Type 0} (b : BrickGhosts B) (c : CallerGhosts C) → GoesOn c
+    → (w v : World B C) (count : ℕ) (text rest : Option (List ℕ)) (events : List Event)
+    (lines : List Line)
+    → Carried b c w count text rest events lines → IsLed b c v lines
+    → CarriedOut b.state v.bricks.items text rest events lines
 done_by b c goes_on w v count text rest events lines h led = record {
   schedule = h.schedule;
   limit = h.limit;
@@ -48,7 +57,12 @@ done_by b c goes_on w v count text rest events lines h led = record {
   prefix = h.prefix;
 }
 
-replays_of : {B C : Type 0} (b : BrickGhosts B) (c : CallerGhosts C) → GoesOn c → (w : World B C) (count : ℕ) (text rest : Option (List ℕ)) (events : List Event) (lines : List Line) → Carried b c w count text rest events lines → Replays b.state w.bricks.items text rest events lines
+replays_of :
+    {B C : Type 0} (b : BrickGhosts B) (c : CallerGhosts C) → GoesOn c
+    → (w : World B C) (count : ℕ) (text rest : Option (List ℕ)) (events : List Event)
+    (lines : List Line)
+    → Carried b c w count text rest events lines
+    → Replays b.state w.bricks.items text rest events lines
 replays_of b c goes_on w count text rest events lines h = let fit = h.at.led.fit in record {
   done = done_by b c goes_on w w count text rest events lines h h.at.led;
   ready = subst (λ (ws : List ℕ). AreReady b.state ws (history_of lines).run (history_of lines).down w.bricks.items) (sym fit.same_weights) (subst (λ (run : ℕ). AreReady b.state w.weights run (history_of lines).down w.bricks.items) (sym fit.summary.run) h.at.ready);
@@ -56,7 +70,10 @@ replays_of b c goes_on w count text rest events lines h = let fit = h.at.led.fit
 }
 
 -- where nothing is written behind the lines
-pub cut_short : {B C : Type 0} (b : BrickGhosts B) (c : CallerGhosts C) → GoesOn c → (w : World B C) (text before taken : Option (List ℕ)) → Stopped b c w text before taken → IsCutShort b.state w.bricks.items text before taken
+pub cut_short :
+    {B C : Type 0} (b : BrickGhosts B) (c : CallerGhosts C) → GoesOn c
+    → (w : World B C) (text before taken : Option (List ℕ)) → Stopped b c w text before taken
+    → IsCutShort b.state w.bricks.items text before taken
 cut_short b c goes_on w text before taken h = record {
   events = h.events;
   lines = h.lines;
@@ -68,7 +85,11 @@ cut_short b c goes_on w text before taken h = record {
 }
 
 -- where memory ran out in a remount
-cut_in_remount : {B C : Type 0} (b : BrickGhosts B) (c : CallerGhosts C) → GoesOn c → (w : World B C) (text before taken : Option (List ℕ)) → StoppedInRemount b c w text before taken → IsCutInRemount b.state w.bricks.items text before taken
+cut_in_remount :
+    {B C : Type 0} (b : BrickGhosts B) (c : CallerGhosts C) → GoesOn c
+    → (w : World B C) (text before taken : Option (List ℕ))
+    → StoppedInRemount b c w text before taken
+    → IsCutInRemount b.state w.bricks.items text before taken
 cut_in_remount b c goes_on w text before taken h =
     let s = history_of h.lines in
     let fit = h.remounting.led.fit in
@@ -85,12 +106,23 @@ cut_in_remount b c goes_on w text before taken h =
     }
 
 -- where memory ran out, and nothing is written behind the lines
-out_of_memory : {B C : Type 0} (b : BrickGhosts B) (c : CallerGhosts C) → GoesOn c → (w : World B C) (text before taken : Option (List ℕ)) → Stopped b c w text before taken ⊎ StoppedInRemount b c w text before taken → IsCutShort b.state w.bricks.items text before taken ⊎ IsCutInRemount b.state w.bricks.items text before taken
+out_of_memory :
+    {B C : Type 0} (b : BrickGhosts B) (c : CallerGhosts C) → GoesOn c
+    → (w : World B C) (text before taken : Option (List ℕ))
+    → Stopped b c w text before taken ⊎ StoppedInRemount b c w text before taken
+    → IsCutShort b.state w.bricks.items text before taken
+    ⊎ IsCutInRemount b.state w.bricks.items text before taken
 out_of_memory b c goes_on w text before taken (inl h) = inl (cut_short b c goes_on w text before taken h)
 out_of_memory b c goes_on w text before taken (inr h) = inr (cut_in_remount b c goes_on w text before taken h)
 
 -- where what stands behind the lines was written in part
-short : {B C : Type 0} (b : BrickGhosts B) (c : CallerGhosts C) → GoesOn c → (w : World B C) (count : ℕ) (text rest before taken new : Option (List ℕ)) (events : List Event) (lines : List Line) (last : List ℕ) → Carried b c w count text rest events lines → taken ≡ after_told before (lines_text lines) → MayFollow b.state w.bricks.items events lines rest last → TakesPrefix taken last new → IsCutShort b.state w.bricks.items text before new
+short :
+    {B C : Type 0} (b : BrickGhosts B) (c : CallerGhosts C) → GoesOn c
+    → (w : World B C) (count : ℕ) (text rest before taken new : Option (List ℕ))
+    (events : List Event) (lines : List Line) (last : List ℕ)
+    → Carried b c w count text rest events lines → taken ≡ after_told before (lines_text lines)
+    → MayFollow b.state w.bricks.items events lines rest last → TakesPrefix taken last new
+    → IsCutShort b.state w.bricks.items text before new
 short b c goes_on w count text rest before taken new events lines last h written follows told = record {
   events = events;
   lines = lines;
@@ -102,7 +134,12 @@ short b c goes_on w count text rest before taken new events lines last h written
 }
 
 -- where the dump was written
-pub ends_done : {B C : Type 0} (b : BrickGhosts B) (c : CallerGhosts C) → GoesOn c → (w : World B C) (count : ℕ) (text rest before taken new : Option (List ℕ)) → Reached b c w count text rest before taken → IsAtEnd rest → new ≡ after_told taken (dump_lines_text (dump_all b.state w.bricks.items)) → IsDone b.state w.bricks.items text rest before new
+pub ends_done :
+    {B C : Type 0} (b : BrickGhosts B) (c : CallerGhosts C) → GoesOn c
+    → (w : World B C) (count : ℕ) (text rest before taken new : Option (List ℕ))
+    → Reached b c w count text rest before taken → IsAtEnd rest
+    → new ≡ after_told taken (dump_lines_text (dump_all b.state w.bricks.items))
+    → IsDone b.state w.bricks.items text rest before new
 ends_done b c goes_on w count text rest before taken new h end told =
     let n = h.carried.counted in
     let some = h.carried.some in
@@ -116,7 +153,11 @@ ends_done b c goes_on w count text rest before taken new h end told =
     }
 
 -- where the number of an invalid line was written
-pub ends_malformed : {B C : Type 0} (b : BrickGhosts B) (c : CallerGhosts C) → GoesOn c → (w : World B C) (count : ℕ) (text before taken new : Option (List ℕ)) → ReachedBad b c w count text before taken → new ≡ after_told taken (malformed_text (count + 1)) → StopsAtLine b.state w.bricks.items text before new
+pub ends_malformed :
+    {B C : Type 0} (b : BrickGhosts B) (c : CallerGhosts C) → GoesOn c
+    → (w : World B C) (count : ℕ) (text before taken new : Option (List ℕ))
+    → ReachedBad b c w count text before taken → new ≡ after_told taken (malformed_text (count + 1))
+    → StopsAtLine b.state w.bricks.items text before new
 ends_malformed b c goes_on w count text before taken new h told = record {
   events = h.events;
   lines = h.lines;
@@ -127,7 +168,11 @@ ends_malformed b c goes_on w count text before taken new h told = record {
 }
 
 -- where it was written that the run has had all its steps
-pub ends_limit : {B C : Type 0} (b : BrickGhosts B) (c : CallerGhosts C) → GoesOn c → (w : World B C) (count : ℕ) (text before taken new : Option (List ℕ)) → ReachedLimit b c w count text before taken → new ≡ after_told taken limit_text → StopsAtLimit b.state w.bricks.items text before new
+pub ends_limit :
+    {B C : Type 0} (b : BrickGhosts B) (c : CallerGhosts C) → GoesOn c
+    → (w : World B C) (count : ℕ) (text before taken new : Option (List ℕ))
+    → ReachedLimit b c w count text before taken → new ≡ after_told taken limit_text
+    → StopsAtLimit b.state w.bricks.items text before new
 ends_limit b c goes_on w count text before taken new h told = record {
   events = h.events;
   lines = h.lines;
@@ -146,7 +191,10 @@ took_none : (taken new : Option (List ℕ)) → TakesPrefix taken [] new → new
 took_none taken new told = told.1 ∙ (ap (after_told taken) (take_all told.0 [] (omega arith)) ∙ took_nothing taken)
 
 -- some event was carried out
-some_carried : {B C : Type 0} (b : BrickGhosts B) (c : CallerGhosts C) (w : World B C) (count : ℕ) (text rest : Option (List ℕ)) (events : List Event) (lines : List Line) → Carried b c w count text rest events lines → events ≢ []
+some_carried :
+    {B C : Type 0} (b : BrickGhosts B) (c : CallerGhosts C) (w : World B C) (count : ℕ)
+    (text rest : Option (List ℕ)) (events : List Event) (lines : List Line)
+    → Carried b c w count text rest events lines → events ≢ []
 some_carried b c w count text rest events lines h none =
     let n = h.counted in
     let some = h.some in
@@ -154,7 +202,13 @@ some_carried b c w count text rest events lines h none =
     omega arith
 
 -- where all was written that stands behind the lines
-pub ends_whole : {B C : Type 0} (b : BrickGhosts B) (c : CallerGhosts C) → GoesOn c → (w : World B C) (count : ℕ) (r : Reader) (text rest before taken new : Option (List ℕ)) (ending : Ending) → EndsSo b c w count r text rest before taken ending → new ≡ after_told taken (last_text b.state w.bricks.items (count + 1) ending) → EndsAs b.state w.bricks.items text rest before new ending
+pub ends_whole :
+    {B C : Type 0} (b : BrickGhosts B) (c : CallerGhosts C) → GoesOn c
+    → (w : World B C) (count : ℕ) (r : Reader) (text rest before taken new : Option (List ℕ))
+    (ending : Ending)
+    → EndsSo b c w count r text rest before taken ending
+    → new ≡ after_told taken (last_text b.state w.bricks.items (count + 1) ending)
+    → EndsAs b.state w.bricks.items text rest before new ending
 ends_whole b c goes_on w count r text rest before taken new Usage h told = absurd h
 ends_whole b c goes_on w count r text rest before taken new Done h told = ends_done b c goes_on w count text rest before taken new h.0 h.1 told
 ends_whole b c goes_on w count r text rest before taken new Malformed h told = ends_malformed b c goes_on w count text before taken new h told
@@ -171,7 +225,13 @@ ends_whole b c goes_on w count r text rest before taken new SourceFailed h told 
 })
 
 -- where a prefix of it was written
-pub ends_in_part : {B C : Type 0} (b : BrickGhosts B) (c : CallerGhosts C) → GoesOn c → (w : World B C) (count : ℕ) (r : Reader) (text rest before taken new : Option (List ℕ)) (ending : Ending) → EndsSo b c w count r text rest before taken ending → (ending ≡ OutOfMemory → ⊥) → TakesPrefix taken (last_text b.state w.bricks.items (count + 1) ending) new → IsCutShort b.state w.bricks.items text before new
+pub ends_in_part :
+    {B C : Type 0} (b : BrickGhosts B) (c : CallerGhosts C) → GoesOn c
+    → (w : World B C) (count : ℕ) (r : Reader) (text rest before taken new : Option (List ℕ))
+    (ending : Ending)
+    → EndsSo b c w count r text rest before taken ending → (ending ≡ OutOfMemory → ⊥)
+    → TakesPrefix taken (last_text b.state w.bricks.items (count + 1) ending) new
+    → IsCutShort b.state w.bricks.items text before new
 ends_in_part b c goes_on w count r text rest before taken new Usage h not told = absurd h
 ends_in_part b c goes_on w count r text rest before taken new Done h not told = (let p = h.0 in
     let some = some_carried b c w count text rest p.events p.lines p.carried in
@@ -186,7 +246,11 @@ ends_in_part b c goes_on w count r text rest before taken new SourceFailed h not
     short b c goes_on w count text (input_of r rest) before taken new p.events p.lines [] p.carried p.written (inl refl) told)
 
 -- the sink or memory cut the run short
-pub ends_short : {B : Type 0} (state : B → BrickState) (bricks : List B) (text rest before taken : Option (List ℕ)) (fault : Type 0) (ending : Ending) → IsCause ending fault → IsCutShort state bricks text before taken → EndsAs state bricks text rest before taken ending
+pub ends_short :
+    {B : Type 0} (state : B → BrickState) (bricks : List B)
+    (text rest before taken : Option (List ℕ)) (fault : Type 0) (ending : Ending)
+    → IsCause ending fault → IsCutShort state bricks text before taken
+    → EndsAs state bricks text rest before taken ending
 ends_short state bricks text rest before taken fault SinkFailed cause h = h
 ends_short state bricks text rest before taken fault OutOfMemory cause h = inl h
 ends_short state bricks text rest before taken fault Done (inl q) h = absurd (let z : Done ≡ SinkFailed = q.0 in cc)

@@ -25,7 +25,10 @@ use Rattle.dht_run.proofs.FinishLaws.{written_prefix, written_all}
 use Rattle.dht_run.proofs.ReplayLaws.{carried_more, cut_more, lines_text-append, malformed_after, misplaced}
 
 -- one event more
-pub so_far_more : {B C : Type 0} (b : BrickGhosts B) (c : CallerGhosts C) (w v : World B C) (count : ℕ) (old new : Reader) (e : Event) (bl al : Option (List ℕ)) (taken told : Option (List ℕ)) → CutsEvent old new bl al e → IsAfterFirst e → v.lines ≤ w.lines + 3
+pub so_far_more :
+    {B C : Type 0} (b : BrickGhosts B) (c : CallerGhosts C) (w v : World B C) (count : ℕ)
+    (old new : Reader) (e : Event) (bl al : Option (List ℕ)) (taken told : Option (List ℕ))
+    → CutsEvent old new bl al e → IsAfterFirst e → v.lines ≤ w.lines + 3
     → ((past : List Line) → IsAt b c w past → (lines : List Line) × Wrote b c w v (count + 1) e past lines taken told (lines_text lines))
     → (text before : Option (List ℕ)) → SoFar b c w count old text bl before taken → SoFar b c v (count + 1) new text al before told
 so_far_more b c w v count old new e bl al taken told cuts later grows wrote text before h =
@@ -42,11 +45,20 @@ told_nothing : (x : Option (List ℕ)) → before_told [] x ≡ x
 told_nothing None = refl
 told_nothing (Some xs) = refl
 
-carried_from : {B C : Type 0} (b : BrickGhosts B) (c : CallerGhosts C) (w : World B C) (count : ℕ) (text was now : Option (List ℕ)) (events : List Event) (lines : List Line) → was ≡ now → Carried b c w count text was events lines → Carried b c w count text now events lines
+carried_from :
+    {B C : Type 0} (b : BrickGhosts B) (c : CallerGhosts C) (w : World B C) (count : ℕ)
+    (text was now : Option (List ℕ)) (events : List Event) (lines : List Line)
+    → was ≡ now → Carried b c w count text was events lines
+    → Carried b c w count text now events lines
 carried_from b c w count text was now events lines e h = subst (λ (o : Option (List ℕ)). Carried b c w count text o events lines) e h
 
 -- at the end of the input
-pub end_reached : {B C : Type 0} (b : BrickGhosts B) (c : CallerGhosts C) (w : World B C) (count : ℕ) (old new : Reader) (text bl al before taken : Option (List ℕ)) → input_of new al ≡ input_of old bl → new.pending ≡ [] → IsAtEnd (input_of old bl) → SoFar b c w count old text bl before taken → Reached b c w count text al before taken × IsAtEnd al
+pub end_reached :
+    {B C : Type 0} (b : BrickGhosts B) (c : CallerGhosts C) (w : World B C) (count : ℕ)
+    (old new : Reader) (text bl al before taken : Option (List ℕ))
+    → input_of new al ≡ input_of old bl → new.pending ≡ [] → IsAtEnd (input_of old bl)
+    → SoFar b c w count old text bl before taken
+    → Reached b c w count text al before taken × IsAtEnd al
 end_reached b c w count old new text bl al before taken same none end h =
     let e : input_of old bl ≡ al = sym same ∙ (ap (λ xs. before_told xs al) none ∙ told_nothing al) in (
       record {
@@ -59,7 +71,11 @@ end_reached b c w count old new text bl al before taken same none end h =
     )
 
 -- what comes next is no event that may come
-pub bad_reached : {B C : Type 0} (b : BrickGhosts B) (c : CallerGhosts C) (w : World B C) (count : ℕ) (old : Reader) (text bl before taken : Option (List ℕ)) (h : SoFar b c w count old text bl before taken) → IfSome (input_of old bl) (IsMalformed h.events) → ReachedBad b c w count text before taken
+pub bad_reached :
+    {B C : Type 0} (b : BrickGhosts B) (c : CallerGhosts C) (w : World B C) (count : ℕ)
+    (old : Reader) (text bl before taken : Option (List ℕ))
+    (h : SoFar b c w count old text bl before taken)
+    → IfSome (input_of old bl) (IsMalformed h.events) → ReachedBad b c w count text before taken
 bad_reached b c w count old text bl before taken h bad = record {
   events = h.events;
   lines = h.lines;
@@ -69,18 +85,30 @@ bad_reached b c w count old text bl before taken h bad = record {
   written = h.written;
 }
 
-no_event_comes : (events : List Event) (cut : ℕ) (input : Option (List ℕ)) → 0 < length events → cut ≡ length (schedule_of events) → IfSome input (HasNoEvent cut) → IfSome input (IsMalformed events)
+no_event_comes :
+    (events : List Event) (cut : ℕ) (input : Option (List ℕ)) → 0 < length events
+    → cut ≡ length (schedule_of events) → IfSome input (HasNoEvent cut)
+    → IfSome input (IsMalformed events)
 no_event_comes events cut None some e h = tt
 no_event_comes events cut (Some bytes) some e h = malformed_after events cut bytes some e h
 
-pub no_event_reached : {B C : Type 0} (b : BrickGhosts B) (c : CallerGhosts C) (w : World B C) (count : ℕ) (old : Reader) (text bl before taken : Option (List ℕ)) → IfSome (input_of old bl) (HasNoEvent old.cut) → SoFar b c w count old text bl before taken → ReachedBad b c w count text before taken
+pub no_event_reached :
+    {B C : Type 0} (b : BrickGhosts B) (c : CallerGhosts C) (w : World B C) (count : ℕ)
+    (old : Reader) (text bl before taken : Option (List ℕ))
+    → IfSome (input_of old bl) (HasNoEvent old.cut) → SoFar b c w count old text bl before taken
+    → ReachedBad b c w count text before taken
 no_event_reached b c w count old text bl before taken none h =
     let n = h.carried.counted in
     let some = h.carried.some in
     bad_reached b c w count old text bl before taken h (no_event_comes h.events old.cut (input_of old bl) (omega arith) h.cut none)
 
 -- a volume does not come behind the first line
-pub volume_reached : {B C : Type 0} (b : BrickGhosts B) (c : CallerGhosts C) (w : World B C) (count : ℕ) (old new : Reader) (e : Event) (text bl al before taken : Option (List ℕ)) → ((o : Event) → IsScheduled o → IsOneLine (schedule_text o)) → CutsEvent old new bl al e → ¬ IsAfterFirst e → SoFar b c w count old text bl before taken → ReachedBad b c w count text before taken
+pub volume_reached :
+    {B C : Type 0} (b : BrickGhosts B) (c : CallerGhosts C) (w : World B C) (count : ℕ)
+    (old new : Reader) (e : Event) (text bl al before taken : Option (List ℕ))
+    → ((o : Event) → IsScheduled o → IsOneLine (schedule_text o)) → CutsEvent old new bl al e
+    → ¬ IsAfterFirst e → SoFar b c w count old text bl before taken
+    → ReachedBad b c w count text before taken
 volume_reached b c w count old new e text bl al before taken one cuts first h =
     let n = h.carried.counted in
     let some = h.carried.some in
@@ -91,7 +119,10 @@ volume_reached b c w count old new e text bl al before taken one cuts first h =
     not_next (x ∷ xs) more m = first m.1
 
 -- the run was cut short between two events
-pub stopped_here : {B C : Type 0} (b : BrickGhosts B) (c : CallerGhosts C) (w : World B C) (count : ℕ) (r : Reader) (text bl before taken : Option (List ℕ)) → SoFar b c w count r text bl before taken → Stopped b c w text before taken
+pub stopped_here :
+    {B C : Type 0} (b : BrickGhosts B) (c : CallerGhosts C) (w : World B C) (count : ℕ) (r : Reader)
+    (text bl before taken : Option (List ℕ))
+    → SoFar b c w count r text bl before taken → Stopped b c w text before taken
 stopped_here b c w count r text bl before taken h = record {
   events = h.events;
   lines = h.lines;
@@ -102,7 +133,9 @@ stopped_here b c w count r text bl before taken h = record {
 }
 
 -- why an event did not come
-pub none_came : {B C : Type 0} (b : BrickGhosts B) (c : CallerGhosts C) (w : World B C) (count : ℕ) (old new : Reader) (text bl al before taken : Option (List ℕ)) (ending : Ending)
+pub none_came :
+    {B C : Type 0} (b : BrickGhosts B) (c : CallerGhosts C) (w : World B C) (count : ℕ)
+    (old new : Reader) (text bl al before taken : Option (List ℕ)) (ending : Ending)
     → (ending ≡ Malformed → IfSome (input_of old bl) (HasNoEvent old.cut))
     → (ending ≡ SourceFailed → (input_of new al ≡ input_of old bl) × HasNoNewline new.pending)
     → (ending ≡ Done → ⊥) → (ending ≡ Usage → ⊥) → (ending ≡ SinkFailed → ⊥) → (ending ≡ Limit → ⊥)
@@ -124,7 +157,11 @@ none_came b c w count old new text bl al before taken SourceFailed bad failed nd
 ))
 
 -- an event did not happen
-carried_still : {B C : Type 0} (b : BrickGhosts B) (c : CallerGhosts C) (w v : World B C) (count : ℕ) (text rest : Option (List ℕ)) (events : List Event) (lines : List Line) → IsAt b c v lines → Carried b c w count text rest events lines → Carried b c v count text rest events lines
+carried_still :
+    {B C : Type 0} (b : BrickGhosts B) (c : CallerGhosts C) (w v : World B C) (count : ℕ)
+    (text rest : Option (List ℕ)) (events : List Event) (lines : List Line)
+    → IsAt b c v lines → Carried b c w count text rest events lines
+    → Carried b c v count text rest events lines
 carried_still b c w v count text rest events lines at h =
     let was = h.at.led.fit.summary.lines in
     let now = at.led.fit.summary.lines in
@@ -142,12 +179,17 @@ carried_still b c w v count text rest events lines at h =
       prefix = h.prefix;
     }
 
-comes_next : (events : List Event) (e : Event) → 0 < length events → IsScheduled e → IsAfterFirst e → MayCome events e
+comes_next :
+    (events : List Event) (e : Event) → 0 < length events → IsScheduled e → IsAfterFirst e
+    → MayCome events e
 comes_next [] e some s a = absurd (omega arith)
 comes_next (x ∷ xs) e some s a = (s, a)
 
 -- the run was cut short while an event was carried out, or its lines were written
-stopped_in : {B C : Type 0} (b : BrickGhosts B) (c : CallerGhosts C) (w v : World B C) (count : ℕ) (old new : Reader) (e : Event) (text bl al before taken told : Option (List ℕ)) → CutsEvent old new bl al e → IsAfterFirst e → v.lines ≤ w.lines + 3
+stopped_in :
+    {B C : Type 0} (b : BrickGhosts B) (c : CallerGhosts C) (w v : World B C) (count : ℕ)
+    (old new : Reader) (e : Event) (text bl al before taken told : Option (List ℕ))
+    → CutsEvent old new bl al e → IsAfterFirst e → v.lines ≤ w.lines + 3
     → (h : SoFar b c w count old text bl before taken) → WroteInPart b c w v (count + 1) e h.lines taken told → Stopped b c v text before told
 stopped_in b c w v count old new e text bl al before taken told cuts later grows h wrote_in_part = by wrote_in_part
   where
@@ -173,7 +215,11 @@ stopped_in b c w v count old new e text bl al before taken told cuts later grows
     }
 
 -- memory ran out in a remount
-stopped_in_remount : {B C : Type 0} (b : BrickGhosts B) (c : CallerGhosts C) (w v : World B C) (count : ℕ) (old new : Reader) (e : Event) (text bl al before taken told : Option (List ℕ)) → CutsEvent old new bl al e → IsAfterFirst e → (h : SoFar b c w count old text bl before taken) → told ≡ taken → IsInRemount b c v e h.lines → StoppedInRemount b c v text before told
+stopped_in_remount :
+    {B C : Type 0} (b : BrickGhosts B) (c : CallerGhosts C) (w v : World B C) (count : ℕ)
+    (old new : Reader) (e : Event) (text bl al before taken told : Option (List ℕ))
+    → CutsEvent old new bl al e → IsAfterFirst e → (h : SoFar b c w count old text bl before taken)
+    → told ≡ taken → IsInRemount b c v e h.lines → StoppedInRemount b c v text before told
 stopped_in_remount b c w v count old new e text bl al before taken told cuts later h same in_remount =
     let n = h.carried.counted in
     let some = h.carried.some in
@@ -192,7 +238,11 @@ stopped_in_remount b c w v count old new e text bl al before taken told cuts lat
     }
 
 -- either of these
-pub stops : {B C : Type 0} (b : BrickGhosts B) (c : CallerGhosts C) (w v : World B C) (count : ℕ) (old new : Reader) (e : Event) (text bl al before taken told : Option (List ℕ)) (ending : Ending) → CutsEvent old new bl al e → IsAfterFirst e → v.lines ≤ w.lines + 3
+pub stops :
+    {B C : Type 0} (b : BrickGhosts B) (c : CallerGhosts C) (w v : World B C) (count : ℕ)
+    (old new : Reader) (e : Event) (text bl al before taken told : Option (List ℕ))
+    (ending : Ending)
+    → CutsEvent old new bl al e → IsAfterFirst e → v.lines ≤ w.lines + 3
     → ((past : List Line) → IsAt b c w past → WroteInPart b c w v (count + 1) e past taken told ⊎ ((ending ≡ OutOfMemory) × (told ≡ taken) × IsInRemount b c v e past))
     → SoFar b c w count old text bl before taken → Stopped b c v text before told ⊎ ((ending ≡ OutOfMemory) × StoppedInRemount b c v text before told)
 stops b c w v count old new e text bl al before taken told ending cuts later grows failed h = elim (failed h.lines h.carried.at) [
@@ -201,17 +251,29 @@ stops b c w v count old new e text bl al before taken told ending cuts later gro
 ]
 
 -- an error is the ending
-pub cut_by : (e : Ending) (P Q R : Type 0) → P ⊎ ((◌≡◌ {A = Result (Unit {0}) Ending} (Err e) (Err OutOfMemory)) × Q × R) → P ⊎ ((e ≡ OutOfMemory) × Q × R)
+pub cut_by :
+    (e : Ending) (P Q R : Type 0)
+    → P ⊎ ((◌≡◌ {A = Result (Unit {0}) Ending} (Err e) (Err OutOfMemory)) × Q × R)
+    → P ⊎ ((e ≡ OutOfMemory) × Q × R)
 cut_by e P Q R (inl p) = inl p
 cut_by e P Q R (inr q) = inr ((let z : Err e ≡ Err OutOfMemory = q.0 in cc), q.1, q.2)
 
 -- other endings have no cause of these
-no_cause : (ending : Ending) (fault : Type 0) → IsEventCause ending fault → (ending ≡ Limit → ⊥) → (ending ≡ SinkFailed → ⊥) → (ending ≡ OutOfMemory → ⊥) → ⊥
+no_cause :
+    (ending : Ending) (fault : Type 0) → IsEventCause ending fault → (ending ≡ Limit → ⊥)
+    → (ending ≡ SinkFailed → ⊥) → (ending ≡ OutOfMemory → ⊥) → ⊥
 no_cause ending fault (inl q) nl nk nm = nl q
 no_cause ending fault (inr (inl q)) nl nk nm = nk q.0
 no_cause ending fault (inr (inr q)) nl nk nm = nm q
 
-pub stopped_ends : {B C : Type 0} (b : BrickGhosts B) (c : CallerGhosts C) (w : World B C) (count : ℕ) (r : Reader) (text rest before taken : Option (List ℕ)) (fault : Type 0) (ending : Ending) → IsEventCause ending fault → Stopped b c w text before taken ⊎ ((ending ≡ OutOfMemory) × StoppedInRemount b c w text before taken) → (ending ≡ Limit → ReachedLimit b c w count text before taken) → EndsSo b c w count r text rest before taken ending
+pub stopped_ends :
+    {B C : Type 0} (b : BrickGhosts B) (c : CallerGhosts C) (w : World B C) (count : ℕ) (r : Reader)
+    (text rest before taken : Option (List ℕ)) (fault : Type 0) (ending : Ending)
+    → IsEventCause ending fault
+    → Stopped b c w text before taken
+    ⊎ ((ending ≡ OutOfMemory) × StoppedInRemount b c w text before taken)
+    → (ending ≡ Limit → ReachedLimit b c w count text before taken)
+    → EndsSo b c w count r text rest before taken ending
 stopped_ends b c w count r text rest before taken fault Limit cause h limit = limit refl
 stopped_ends b c w count r text rest before taken fault SinkFailed cause (inl h) limit = h
 stopped_ends b c w count r text rest before taken fault SinkFailed cause (inr h) limit = absurd (let z : SinkFailed ≡ OutOfMemory = h.0 in cc)
@@ -223,7 +285,10 @@ stopped_ends b c w count r text rest before taken fault Malformed cause h limit 
 stopped_ends b c w count r text rest before taken fault SourceFailed cause h limit = absurd (no_cause SourceFailed fault cause (λ q. let z : SourceFailed ≡ Limit = q in cc) (λ q. let z : SourceFailed ≡ SinkFailed = q in cc) (λ q. let z : SourceFailed ≡ OutOfMemory = q in cc))
 
 -- a step came that is one too many
-pub limit_reached : {B C : Type 0} (b : BrickGhosts B) (c : CallerGhosts C) (w v : World B C) (count : ℕ) (old new : Reader) (e : Event) (text bl al before taken told : Option (List ℕ)) → CutsEvent old new bl al e → IsAfterFirst e → v.lines ≤ w.lines + 3
+pub limit_reached :
+    {B C : Type 0} (b : BrickGhosts B) (c : CallerGhosts C) (w v : World B C) (count : ℕ)
+    (old new : Reader) (e : Event) (text bl al before taken told : Option (List ℕ))
+    → CutsEvent old new bl al e → IsAfterFirst e → v.lines ≤ w.lines + 3
     → ((past : List Line) → IsAt b c w past → Spends b c v e past taken told)
     → SoFar b c w count old text bl before taken → ReachedLimit b c v count text before told
 limit_reached b c w v count old new e text bl al before taken told cuts later grows spends h =
@@ -257,5 +322,7 @@ fault_before a b c le (inl lt) = inl (omega arith)
 fault_before a b c le (inr top) = inr (omega arith)
 
 -- the event that came
-pub came : (result : Result (Option Event) Ending) (next : Option Event) (e : Event) (P : Event → Type 0) → result ≡ Ok next → next ≡ Some e → IfOk result (λ o. IfSome o P) → P e
+pub came :
+    (result : Result (Option Event) Ending) (next : Option Event) (e : Event) (P : Event → Type 0)
+    → result ≡ Ok next → next ≡ Some e → IfOk result (λ o. IfSome o P) → P e
 came result next e P is some h = subst (λ (r : Result (Option Event) Ending). IfOk r (λ o. IfSome o P)) (is ∙ ap Ok some) h

@@ -4,19 +4,26 @@ use Rattle.std.proofs.Math.Seq.{take-add}
 use Rattle.std.proofs.lemmas.List.{drop-take, drop-drop, take_at, length-drop, length-take-le}
 
 -- what is held after its first n bytes are let go
-pub held_after : (buffer : List ℕ) (start held n : ℕ) → n ≤ held → take (held - n) (drop (start + n) buffer) ≡ drop n (take held (drop start buffer))
+pub held_after :
+    (buffer : List ℕ) (start held n : ℕ) → n ≤ held
+    → take (held - n) (drop (start + n) buffer) ≡ drop n (take held (drop start buffer))
 held_after buffer start held n le =
     let whole : n + (held - n) ≡ held = omega arith in
     ap (take (held - n)) (sym (drop-drop n start buffer)) ∙ sym (drop-take n (held - n) (drop start buffer))
     ∙ ap (λ k. drop n (take k (drop start buffer))) whole
 
 -- what is held stays if the buffer up to its end stays
-pub held_same : (old new : List ℕ) (start held : ℕ) → take (start + held) new ≡ take (start + held) old → take held (drop start new) ≡ take held (drop start old)
+pub held_same :
+    (old new : List ℕ) (start held : ℕ) → take (start + held) new ≡ take (start + held) old
+    → take held (drop start new) ≡ take held (drop start old)
 held_same old new start held same =
     sym (drop-take start held new) ∙ ap (drop start) same ∙ drop-take start held old
 
 -- what is held after n more bytes of the buffer count
-pub held_more : (buffer : List ℕ) (start held n : ℕ) → take (held + n) (drop start buffer) ≡ take held (drop start buffer) ++ take n (drop (start + held) buffer)
+pub held_more :
+    (buffer : List ℕ) (start held n : ℕ)
+    → take (held + n) (drop start buffer)
+    ≡ take held (drop start buffer) ++ take n (drop (start + held) buffer)
 held_more buffer start held n =
     take-add held n (drop start buffer) ∙ ap (λ rest. take held (drop start buffer) ++ take n rest) (drop-drop held start buffer)
 
@@ -24,9 +31,14 @@ held_more buffer start held n =
 all_shown : (bytes behind : List ℕ) (n : ℕ) → length bytes ≡ n → take n (bytes ++ behind) ≡ bytes
 all_shown bytes behind n len = take_at bytes behind n len
 
--- The buffer was `old`; it shows `moved`, and then `filled`, in place of `old`; what is held stands at another place.
--- It stays where the bytes up to its end stay.
-pub filled_same : (old was moved shown filled behind behind' : List ℕ) (n start place held : ℕ) → was ≡ old → length moved ≡ length was → n ≡ length old → shown ≡ take n (moved ++ behind) → length filled ≡ length shown → take held (drop place moved) ≡ take held (drop start was) → take (place + held) filled ≡ take (place + held) shown → take held (drop place (take n (filled ++ behind'))) ≡ take held (drop start old)
+-- The buffer was `old`; it shows `moved`, and then `filled`, in place of `old`; what
+-- is held stands at another place. It stays where the bytes up to its end stay.
+pub filled_same :
+    (old was moved shown filled behind behind' : List ℕ) (n start place held : ℕ) → was ≡ old
+    → length moved ≡ length was → n ≡ length old → shown ≡ take n (moved ++ behind)
+    → length filled ≡ length shown → take held (drop place moved) ≡ take held (drop start was)
+    → take (place + held) filled ≡ take (place + held) shown
+    → take held (drop place (take n (filled ++ behind'))) ≡ take held (drop start old)
 filled_same old was moved shown filled behind behind' n start place held value kept size is len' same prefix =
     let len : length moved ≡ n = kept ∙ ap length value ∙ sym size in
     let shows : shown ≡ moved = is ∙ all_shown moved behind n len in
@@ -35,7 +47,13 @@ filled_same old was moved shown filled behind behind' n start place held value k
     ∙ held_same moved filled place held (prefix ∙ ap (take (place + held)) shows) ∙ same ∙ ap (λ bytes. take held (drop start bytes)) value
 
 -- and more of what stands behind it counts
-pub filled_more : (old was moved shown filled behind behind' : List ℕ) (n start place held more : ℕ) → was ≡ old → length moved ≡ length was → n ≡ length old → shown ≡ take n (moved ++ behind) → length filled ≡ length shown → take held (drop place moved) ≡ take held (drop start was) → take (place + held) filled ≡ take (place + held) shown → take (held + more) (drop place (take n (filled ++ behind'))) ≡ take held (drop start old) ++ take more (drop (place + held) filled)
+pub filled_more :
+    (old was moved shown filled behind behind' : List ℕ) (n start place held more : ℕ) → was ≡ old
+    → length moved ≡ length was → n ≡ length old → shown ≡ take n (moved ++ behind)
+    → length filled ≡ length shown → take held (drop place moved) ≡ take held (drop start was)
+    → take (place + held) filled ≡ take (place + held) shown
+    → take (held + more) (drop place (take n (filled ++ behind')))
+    ≡ take held (drop start old) ++ take more (drop (place + held) filled)
 filled_more old was moved shown filled behind behind' n start place held more value kept size is len' same prefix =
     let len : length moved ≡ n = kept ∙ ap length value ∙ sym size in
     let shows : shown ≡ moved = is ∙ all_shown moved behind n len in
@@ -44,5 +62,6 @@ filled_more old was moved shown filled behind behind' n start place held more va
     ∙ ap (λ prefix. prefix ++ take more (drop (place + held) filled)) (held_same moved filled place held (prefix ∙ ap (take (place + held)) shows) ∙ same ∙ ap (λ bytes. take held (drop start bytes)) value)
 
 -- how many bytes stand in a part of a buffer
-pub length-part : (bytes : List ℕ) (from n : ℕ) → from + n ≤ length bytes → length (take n (drop from bytes)) ≡ n
+pub length-part :
+    (bytes : List ℕ) (from n : ℕ) → from + n ≤ length bytes → length (take n (drop from bytes)) ≡ n
 length-part bytes from n le = length-take-le n (drop from bytes) (omega (arith, length-drop from bytes))

@@ -6,7 +6,9 @@ use Rattle.dht_run.specs.Outside.{before_told, IsAtEnd}
 use Rattle.dht_run.proofs.Told.{before_told-before_told}
 
 -- a prefix with no newline is within the first line
-pub line_past : (prefix rest line after : List ℕ) → HasNoNewline prefix → prefix ++ rest ≡ line ++ 10 ∷ after → length prefix ≤ length line
+pub line_past :
+    (prefix rest line after : List ℕ) → HasNoNewline prefix → prefix ++ rest ≡ line ++ 10 ∷ after
+    → length prefix ≤ length line
 line_past [] rest line after one e = omega arith
 line_past (x ∷ prefix) rest [] after one e = absurd (one 0 0 (omega arith) (cc))
 line_past (x ∷ prefix) rest (y ∷ line) after one e =
@@ -24,7 +26,9 @@ no_line_end cut input more one = record {
 }
 
 -- an input that passes a limit before its first newline has no line
-no_line_past : (cut : ℕ) (prefix rest : List ℕ) → prefix ++ rest ≢ [] → HasNoNewline prefix → ¬ IsWithinLimits cut (length prefix) → HasNoLine cut (prefix ++ rest)
+no_line_past :
+    (cut : ℕ) (prefix rest : List ℕ) → prefix ++ rest ≢ [] → HasNoNewline prefix
+    → ¬ IsWithinLimits cut (length prefix) → HasNoLine cut (prefix ++ rest)
 no_line_past cut prefix rest more one past = record {
   goes_on = more;
   no_line = λ line after e one' within.
@@ -36,7 +40,9 @@ no_line_past cut prefix rest more one past = record {
 more_than : (held rest : List ℕ) → 0 < length held → held ++ rest ≢ []
 more_than held rest some none = omega (arith, length-append held rest, ap length none)
 
-pub no_line_at : (cut k : ℕ) (held : List ℕ) → IsFirstNewline held k → ¬ IsWithinLimits cut k → (rest : List ℕ) → HasNoLine cut (held ++ rest)
+pub no_line_at :
+    (cut k : ℕ) (held : List ℕ) → IsFirstNewline held k → ¬ IsWithinLimits cut k → (rest : List ℕ)
+    → HasNoLine cut (held ++ rest)
 no_line_at cut k held first past rest =
     let len : length (take k held) ≡ k = length-take-le k held (omega (arith, first.within)) in
     let whole : take k held ++ (drop k held ++ rest) ≡ held ++ rest =
@@ -48,15 +54,22 @@ no_line_at cut k held first past rest =
 full_is_past : (r : Reader) → IsFull r → ¬ IsWithinLimits r.cut (length r.pending)
 full_is_past r full within = elim full.1 [ inl le ↦ omega (arith, within.0) | inr le ↦ omega (arith, within.1) ]
 
-pub no_line_full : (r : Reader) → HasNoNewline r.pending → IsFull r → (rest : List ℕ) → HasNoLine r.cut (r.pending ++ rest)
+pub no_line_full :
+    (r : Reader) → HasNoNewline r.pending → IsFull r → (rest : List ℕ)
+    → HasNoLine r.cut (r.pending ++ rest)
 no_line_full r one full rest = no_line_past r.cut r.pending rest (more_than r.pending rest full.0) one (full_is_past r full)
 
 -- what is held has no line if no input that begins with it has one
-pub no_line_held : (cut : ℕ) (held : List ℕ) → ((rest : List ℕ) → HasNoLine cut (held ++ rest)) → HasNoLine cut held
+pub no_line_held :
+    (cut : ℕ) (held : List ℕ) → ((rest : List ℕ) → HasNoLine cut (held ++ rest))
+    → HasNoLine cut held
 no_line_held cut held past = subst (HasNoLine cut) (append-nil held) (past [])
 
 -- the same of what is held and what the source has left, told as the input of a reader before
-pub no_line_told : (old now : Reader) (before after : Option (List ℕ)) → input_of now after ≡ input_of old before → now.cut ≡ old.cut → ((rest : List ℕ) → HasNoLine now.cut (now.pending ++ rest)) → IfSome (input_of old before) (HasNoLine old.cut)
+pub no_line_told :
+    (old now : Reader) (before after : Option (List ℕ)) → input_of now after ≡ input_of old before
+    → now.cut ≡ old.cut → ((rest : List ℕ) → HasNoLine now.cut (now.pending ++ rest))
+    → IfSome (input_of old before) (HasNoLine old.cut)
 no_line_told old now before after same cut past =
     subst (λ told. IfSome told (HasNoLine old.cut)) same (subst (λ n. IfSome (input_of now after) (HasNoLine n)) cut (told now after past))
   where
@@ -65,7 +78,9 @@ no_line_told old now before after same cut past =
     told now (Some rest) past = past rest
 
 -- at the end of the source, what is held is the input
-pub input_of_end : (old now : Reader) (before after : Option (List ℕ)) → input_of now after ≡ input_of old before → IsAtEnd after → (P : List ℕ → Type 0) → P now.pending → IfSome (input_of old before) P
+pub input_of_end :
+    (old now : Reader) (before after : Option (List ℕ)) → input_of now after ≡ input_of old before
+    → IsAtEnd after → (P : List ℕ → Type 0) → P now.pending → IfSome (input_of old before) P
 input_of_end old now before after same end P p = subst (λ told. IfSome told P) same (told now after end P p)
   where
     told : (now : Reader) (after : Option (List ℕ)) → IsAtEnd after → (P : List ℕ → Type 0) → P now.pending → IfSome (input_of now after) P
@@ -78,19 +93,28 @@ is_at_end None none = tt
 is_at_end (Some bytes) none = none
 
 -- where nothing was added, what is held has no more newlines
-pub one_line_still : (old new : Reader) (n : ℕ) (before after : Option (List ℕ)) → Adds old new n before after → n ≡ 0 → HasNoNewline old.pending → HasNoNewline new.pending
+pub one_line_still :
+    (old new : Reader) (n : ℕ) (before after : Option (List ℕ)) → Adds old new n before after
+    → n ≡ 0 → HasNoNewline old.pending → HasNoNewline new.pending
 one_line_still old new n before after adds none one =
     let nothing : adds.added ≡ [] = nil_from_length adds.added (adds.many ∙ none) in
     subst HasNoNewline (sym (adds.held ∙ ap (λ bytes. old.pending ++ bytes) nothing ∙ append-nil old.pending)) one
 
 -- what is added to the bytes that are held was in the input before
-pub input_of_more : (old new : Reader) (n : ℕ) (before after : Option (List ℕ)) → Adds old new n before after → input_of new after ≡ input_of old before
+pub input_of_more :
+    (old new : Reader) (n : ℕ) (before after : Option (List ℕ)) → Adds old new n before after
+    → input_of new after ≡ input_of old before
 input_of_more old new n before after adds =
     ap (λ held. before_told held after) adds.held ∙ sym (before_told-before_told old.pending adds.added after)
     ∙ ap (before_told old.pending) (sym adds.given)
 
 -- a cut at the first newline
-pub cuts_line : (old now new : Reader) (before after : Option (List ℕ)) (k : ℕ) → input_of now after ≡ input_of old before → now.cut ≡ old.cut → IsFirstNewline now.pending k → IsWithinLimits now.cut k → new.line ≡ take k now.pending → new.pending ≡ drop (k + 1) now.pending → new.cut ≡ now.cut + k + 1 → CutsLine old new before after
+pub cuts_line :
+    (old now new : Reader) (before after : Option (List ℕ)) (k : ℕ)
+    → input_of now after ≡ input_of old before → now.cut ≡ old.cut → IsFirstNewline now.pending k
+    → IsWithinLimits now.cut k → new.line ≡ take k now.pending
+    → new.pending ≡ drop (k + 1) now.pending → new.cut ≡ now.cut + k + 1
+    → CutsLine old new before after
 cuts_line old now new before after k same cut first within line rest counted =
     let len : length new.line ≡ k = ap length line ∙ length-take-le k now.pending (omega (arith, first.within)) in
     let newline : drop k now.pending ≡ 10 ∷ drop (k + 1) now.pending =

@@ -9,7 +9,9 @@ use Rattle.dht_world.proofs.NewbornLaws.{newborn_all, ready_all}
 use Rattle.dht_run.specs.NewBricks.{first_value}
 
 -- what two facts of a value give
-pub if_both : {A E : Type 0} (r : Result A E) (P Q R : A → Type 0) → ((x : A) → P x → Q x → R x) → IfOk r P → IfOk r Q → IfOk r R
+pub if_both :
+    {A E : Type 0} (r : Result A E) (P Q R : A → Type 0) → ((x : A) → P x → Q x → R x) → IfOk r P
+    → IfOk r Q → IfOk r R
 if_both (Ok x) P Q R f p q = f x p q
 if_both (Err e) P Q R f p q = p
 

@@ -18,7 +18,9 @@ abbrev pub AreIdlePlaces : ℕ → List (Place Client) → Type 0
 AreIdlePlaces n [] = Unit {0}
 AreIdlePlaces n (p ∷ ps) = IsIdlePlace n p × AreIdlePlaces (suc n) ps
 
-pub one_place_more : (n m : ℕ) (places : List (Place Client)) (p : Place Client) → AreIdlePlaces n places → m ≡ n + length places → IsIdlePlace m p → AreIdlePlaces n (places ++ p ∷ [])
+pub one_place_more :
+    (n m : ℕ) (places : List (Place Client)) (p : Place Client) → AreIdlePlaces n places
+    → m ≡ n + length places → IsIdlePlace m p → AreIdlePlaces n (places ++ p ∷ [])
 one_place_more n m [] p h k new = (subst (λ (i : ℕ). IsIdlePlace i p) (omega arith) new, tt)
 one_place_more n m (x ∷ xs) p h k new = (h.0, one_place_more (suc n) m xs p h.1 (omega arith) new)
 
@@ -30,7 +32,9 @@ idle_place : (n : ℕ) (p : Place Client) → IsIdlePlace n p → IsNewAt ghosts
 idle_place n (Living x k) h = h
 idle_place n Dead h = h
 
-idle_places : (n : ℕ) (places : List (Place Client)) → AreIdlePlaces n places → (i : ℕ) → IsNewAt ghosts (n + i) (slice_get places i)
+idle_places :
+    (n : ℕ) (places : List (Place Client)) → AreIdlePlaces n places → (i : ℕ)
+    → IsNewAt ghosts (n + i) (slice_get places i)
 idle_places n [] h i = tt
 idle_places n (x ∷ xs) h zero = subst (λ (m : ℕ). IsNewAt ghosts m (Some x)) (let z : n ≡ n + 0 = omega arith in z) (idle_place n x h.0)
 idle_places n (x ∷ xs) h (suc i) = subst (λ (m : ℕ). IsNewAt ghosts m (slice_get xs i)) (let z : suc n + i ≡ n + suc i = omega arith in z) (idle_places (suc n) xs h.1 i)

@@ -33,19 +33,28 @@ use Rattle.dht_run.specs.SoFar.{Carried}
 use Rattle.dht_run.proofs.BlockLaws.{limited_more}
 
 -- one more event at the end
-pub schedule_more : (es : List Event) (e : Event) → schedule_of (es ++ e ∷ []) ≡ schedule_of es ++ (schedule_text e ++ 10 ∷ [])
+pub schedule_more :
+    (es : List Event) (e : Event)
+    → schedule_of (es ++ e ∷ []) ≡ schedule_of es ++ (schedule_text e ++ 10 ∷ [])
 schedule_more [] e = refl
 schedule_more (x ∷ xs) e = ap (λ ys. schedule_text x ++ 10 ∷ ys) (schedule_more xs e) ∙ sym (append_assoc (schedule_text x) (10 ∷ schedule_of xs) (schedule_text e ++ 10 ∷ []))
 
-after_more : (es : List Event) (e : Event) → AreAfterFirst es → IsScheduled e → IsAfterFirst e → AreAfterFirst (es ++ e ∷ [])
+after_more :
+    (es : List Event) (e : Event) → AreAfterFirst es → IsScheduled e → IsAfterFirst e
+    → AreAfterFirst (es ++ e ∷ [])
 after_more [] e h s a = (s, a, tt)
 after_more (x ∷ xs) e h s a = (h.0, h.1, after_more xs e h.2 s a)
 
-pub is_schedule_more : (es : List Event) (e : Event) → IsSchedule es → 0 < length es → IsScheduled e → IsAfterFirst e → IsSchedule (es ++ e ∷ [])
+pub is_schedule_more :
+    (es : List Event) (e : Event) → IsSchedule es → 0 < length es → IsScheduled e → IsAfterFirst e
+    → IsSchedule (es ++ e ∷ [])
 is_schedule_more [] e h some s a = absurd (omega arith)
 is_schedule_more (x ∷ xs) e h some s a = (h.0, h.1, after_more xs e h.2 s a)
 
-comes_more : (s : History) (n : ℕ) (es : List Event) (lines : List Line) (e : Event) (block : List Line) → ComesFrom s n es lines → Block (with_lines s lines) (n + length es) e block → ComesFrom s n (es ++ e ∷ []) (lines ++ block)
+comes_more :
+    (s : History) (n : ℕ) (es : List Event) (lines : List Line) (e : Event) (block : List Line)
+    → ComesFrom s n es lines → Block (with_lines s lines) (n + length es) e block
+    → ComesFrom s n (es ++ e ∷ []) (lines ++ block)
 comes_more s n [] lines e block h b = (block, [], ap (λ xs. xs ++ block) h ∙ sym (nil_end block), subst (λ (m : ℕ). Block s m e block) (omega arith) (subst (λ (xs : List Line). Block (with_lines s xs) (n + 0) e block) h b), refl)
   where
     nil_end : {A : Type 0} (xs : List A) → xs ++ [] ≡ xs
@@ -59,10 +68,15 @@ comes_more s n (x ∷ xs) lines e block h b = (
   comes_more (with_lines s h.0) (n + 1) xs h.1 e block h.4 (subst (λ (m : ℕ). Block (with_lines (with_lines s h.0) h.1) m e block) (omega arith) (subst (λ (t : History). Block t (n + length (x ∷ xs)) e block) (ap (with_lines s) h.2 ∙ lines_append s h.0 h.1) b)),
 )
 
-pub comes_from_more : (es : List Event) (lines : List Line) (n : ℕ) (e : Event) (block : List Line) → n ≡ length es + 1 → ComesFrom start 1 es lines → Block (history_of lines) n e block → ComesFrom start 1 (es ++ e ∷ []) (lines ++ block)
+pub comes_from_more :
+    (es : List Event) (lines : List Line) (n : ℕ) (e : Event) (block : List Line)
+    → n ≡ length es + 1 → ComesFrom start 1 es lines → Block (history_of lines) n e block
+    → ComesFrom start 1 (es ++ e ∷ []) (lines ++ block)
 comes_from_more es lines n e block en h b = comes_more start 1 es lines e block h (subst (λ (m : ℕ). Block (history_of lines) m e block) (omega arith) b)
 
-flat_more : (xs ys : List Line) → flat_map line_text (xs ++ ys) ≡ flat_map line_text xs ++ flat_map line_text ys
+flat_more :
+    (xs ys : List Line)
+    → flat_map line_text (xs ++ ys) ≡ flat_map line_text xs ++ flat_map line_text ys
 flat_more [] ys = refl
 flat_more (x ∷ xs) ys = ap (λ zs. line_text x ++ zs) (flat_more xs ys) ∙ sym (append_assoc (line_text x) (flat_map line_text xs) (flat_map line_text ys))
 
@@ -71,16 +85,22 @@ unfolding lines_text
 lines_text-append xs ys = flat_more xs ys
 
 -- each line begins one more run at most
-fewer_runs : (s : History) (x : Line) → s.run ≤ s.size + 1 → (with_line s x).run ≤ (with_line s x).size + 1
+fewer_runs :
+    (s : History) (x : Line) → s.run ≤ s.size + 1 → (with_line s x).run ≤ (with_line s x).size + 1
 fewer_runs s (Remounted w) l = omega arith
 fewer_runs s x l = (let same = run_with_line s x tt in omega arith)
 
-few_runs : (s : History) (xs : List Line) → s.run ≤ s.size + 1 → (with_lines s xs).run ≤ (with_lines s xs).size + 1
+few_runs :
+    (s : History) (xs : List Line) → s.run ≤ s.size + 1
+    → (with_lines s xs).run ≤ (with_lines s xs).size + 1
 few_runs s [] l = l
 few_runs s (x ∷ xs) l = few_runs (with_line s x) xs (fewer_runs s x l)
 
 -- so another run can begin
-pub run_small : {B C : Type 0} (b : BrickGhosts B) (c : CallerGhosts C) (w : World B C) (count : ℕ) (text rest : Option (List ℕ)) (events : List Event) (lines : List Line) → Carried b c w count text rest events lines → w.run + 1 < 2 ^ 32
+pub run_small :
+    {B C : Type 0} (b : BrickGhosts B) (c : CallerGhosts C) (w : World B C) (count : ℕ)
+    (text rest : Option (List ℕ)) (events : List Event) (lines : List Line)
+    → Carried b c w count text rest events lines → w.run + 1 < 2 ^ 32
 run_small b c w count text rest events lines h =
     let summary = h.at.led.fit.summary in
     let run = summary.run in
@@ -92,7 +112,9 @@ run_small b c w count text rest events lines h =
     omega arith
 
 -- nothing that may come next comes
-pub malformed_after : (events : List Event) (cut : ℕ) (input : List ℕ) → 0 < length events → cut ≡ length (schedule_of events) → HasNoEvent cut input → IsMalformed events input
+pub malformed_after :
+    (events : List Event) (cut : ℕ) (input : List ℕ) → 0 < length events
+    → cut ≡ length (schedule_of events) → HasNoEvent cut input → IsMalformed events input
 malformed_after [] cut input some e h = absurd (omega arith)
 malformed_after (x ∷ xs) cut input some e h = record {
   no_end = λ q. absurd (h.goes_on q);
@@ -106,7 +128,8 @@ head_in x xs e = (0, omega arith, e)
 tail_in : (x : ℕ) (xs : List ℕ) → Contains xs 10 → Contains (x ∷ xs) 10
 tail_in x xs h = (let l = h.1 in (suc h.0, omega arith, h.2))
 
-pub first_line : (a b x y : List ℕ) → ¬ Contains a 10 → ¬ Contains b 10 → a ++ 10 ∷ x ≡ b ++ 10 ∷ y → a ≡ b
+pub first_line :
+    (a b x y : List ℕ) → ¬ Contains a 10 → ¬ Contains b 10 → a ++ 10 ∷ x ≡ b ++ 10 ∷ y → a ≡ b
 first_line [] [] x y na nb e = refl
 first_line [] (c ∷ b) x y na nb e = absurd (nb (head_in c b (let z : 10 ∷ x ≡ c ∷ (b ++ 10 ∷ y) = e in cc)))
 first_line (c ∷ a) [] x y na nb e = absurd (na (head_in c a (let z : c ∷ (a ++ 10 ∷ x) ≡ 10 ∷ y = e in cc)))
@@ -118,7 +141,12 @@ first_line (c ∷ a) (d ∷ b) x y na nb e =
     cc
 
 -- an event that may not come next comes
-pub misplaced : (events : List Event) (e : Event) (input after : Option (List ℕ)) → ((o : Event) → IsScheduled o → IsOneLine (schedule_text o)) → IsScheduled e → (MayCome events e → ⊥) → ((o : Event) → IsScheduled o → schedule_text o ≡ schedule_text e → o ≡ e) → input ≡ before_told (schedule_text e ++ 10 ∷ []) after → IfSome input (IsMalformed events)
+pub misplaced :
+    (events : List Event) (e : Event) (input after : Option (List ℕ))
+    → ((o : Event) → IsScheduled o → IsOneLine (schedule_text o)) → IsScheduled e
+    → (MayCome events e → ⊥)
+    → ((o : Event) → IsScheduled o → schedule_text o ≡ schedule_text e → o ≡ e)
+    → input ≡ before_told (schedule_text e ++ 10 ∷ []) after → IfSome input (IsMalformed events)
 misplaced events e input None one s not only eq = subst (λ (o : Option (List ℕ)). IfSome o (IsMalformed events)) (sym eq) tt
 misplaced events e input (Some more) one s not only eq = subst (λ (o : Option (List ℕ)). IfSome o (IsMalformed events)) (sym eq) (record {
   no_end = λ q. absurd (let z : length ((schedule_text e ++ 10 ∷ []) ++ more) ≡ 0 = ap length q in omega (arith, length-append (schedule_text e ++ 10 ∷ []) more, length-append (schedule_text e) (10 ∷ [])));
@@ -132,7 +160,12 @@ misplaced events e input (Some more) one s not only eq = subst (λ (o : Option (
     may_scheduled (x ∷ xs) o h = h.0
 
 -- a call that nobody disturbed has requests left
-answers_by : {C : Type 0} (c : CallerGhosts C) → ((x : C) → c.is_busy x ≡ true → 0 < (c.stage x).variant) → (d : Disk) (s : History) (claims : ℕ → Claim) (i : ℕ) (x : C) (n : CallNo) (busy : Bool) → c.is_busy x ≡ busy → MatchBool busy (Works c d s claims i x n) (Rests c s i x) → (r : PendingCall) → s.pending i ≡ Some r → IsUndisturbed s r → r.steps < cost (length s.weights) r.call
+answers_by :
+    {C : Type 0} (c : CallerGhosts C) → ((x : C) → c.is_busy x ≡ true → 0 < (c.stage x).variant)
+    → (d : Disk) (s : History) (claims : ℕ → Claim) (i : ℕ) (x : C) (n : CallNo) (busy : Bool)
+    → c.is_busy x ≡ busy → MatchBool busy (Works c d s claims i x n) (Rests c s i x)
+    → (r : PendingCall) → s.pending i ≡ Some r → IsUndisturbed s r
+    → r.steps < cost (length s.weights) r.call
 answers_by c goes_on d s claims i x n true busy h r e alone =
     let z : Some h.mine ≡ Some r = sym h.runs ∙ e in
     let same : h.mine ≡ r = cc in
@@ -141,13 +174,23 @@ answers_by c goes_on d s claims i x n true busy h r e alone =
     subst (λ (o : PendingCall). o.steps < cost (length s.weights) o.call) same (omega arith)
 answers_by c goes_on d s claims i x n false idle h r e alone = absurd (let z : Some r ≡ None = sym e ∙ h.none in cc)
 
-answers_at : {C : Type 0} (c : CallerGhosts C) → ((x : C) → c.is_busy x ≡ true → 0 < (c.stage x).variant) → (d : Disk) (s : History) (claims : ℕ → Claim) (i : ℕ) (place : Option (Place C)) → ClientFits c d s claims i place → (r : PendingCall) → s.pending i ≡ Some r → IsUndisturbed s r → r.steps < cost (length s.weights) r.call
+answers_at :
+    {C : Type 0} (c : CallerGhosts C) → ((x : C) → c.is_busy x ≡ true → 0 < (c.stage x).variant)
+    → (d : Disk) (s : History) (claims : ℕ → Claim) (i : ℕ) (place : Option (Place C))
+    → ClientFits c d s claims i place → (r : PendingCall) → s.pending i ≡ Some r → IsUndisturbed s r
+    → r.steps < cost (length s.weights) r.call
 answers_at c goes_on d s claims i None h r e alone = absurd (let z : Some r ≡ None = sym e ∙ h in cc)
 answers_at c goes_on d s claims i (Some Dead) h r e alone = absurd (let z : Some r ≡ None = sym e ∙ h.1 in cc)
 answers_at c goes_on d s claims i (Some (Living x n)) h r e alone = answers_by c goes_on d s claims i x n (c.is_busy x) refl h.2 r e alone
 
 -- the transcript so far is one
-pub transcript_of : {B C : Type 0} (b : BrickGhosts B) (c : CallerGhosts C) → ((x : C) → c.is_busy x ≡ true → 0 < (c.stage x).variant) → (w : World B C) (events : List Event) (lines : List Line) → IsLed b c w lines → ComesFrom start 1 events lines → (history_of lines).requests ≤ step_limit → IsTranscript events lines (disk_of b.state w.bricks.items) (journals_of b.state w.bricks.items)
+pub transcript_of :
+    {B C : Type 0} (b : BrickGhosts B) (c : CallerGhosts C)
+    → ((x : C) → c.is_busy x ≡ true → 0 < (c.stage x).variant)
+    → (w : World B C) (events : List Event) (lines : List Line) → IsLed b c w lines
+    → ComesFrom start 1 events lines → (history_of lines).requests ≤ step_limit
+    → IsTranscript events lines (disk_of b.state w.bricks.items)
+    (journals_of b.state w.bricks.items)
 transcript_of b c goes_on w events lines led comes limited =
     let s = history_of lines in
     let d = disk_of b.state w.bricks.items in
@@ -168,7 +211,14 @@ transcript_of b c goes_on w events lines led comes limited =
     }
 
 -- one event more was carried out
-pub carried_more : {B C : Type 0} (b : BrickGhosts B) (c : CallerGhosts C) (w v : World B C) (count : ℕ) (old new : Reader) (text before after : Option (List ℕ)) (events : List Event) (lines block : List Line) (e : Event) → old.cut ≡ length (schedule_of events) → CutsEvent old new before after e → IsAfterFirst e → v.lines ≤ w.lines + 3 → Advances b c w v (count + 1) e lines block → ¬ IsSpent (history_of lines) e → Carried b c w count text (input_of old before) events lines → Carried b c v (count + 1) text (input_of new after) (events ++ e ∷ []) (lines ++ block)
+pub carried_more :
+    {B C : Type 0} (b : BrickGhosts B) (c : CallerGhosts C) (w v : World B C) (count : ℕ)
+    (old new : Reader) (text before after : Option (List ℕ)) (events : List Event)
+    (lines block : List Line) (e : Event)
+    → old.cut ≡ length (schedule_of events) → CutsEvent old new before after e → IsAfterFirst e
+    → v.lines ≤ w.lines + 3 → Advances b c w v (count + 1) e lines block
+    → ¬ IsSpent (history_of lines) e → Carried b c w count text (input_of old before) events lines
+    → Carried b c v (count + 1) text (input_of new after) (events ++ e ∷ []) (lines ++ block)
 carried_more b c w v count old new text before after events lines block e cut cuts later grows a unspent h =
     let n = h.counted in
     let some = h.some in
@@ -190,7 +240,10 @@ carried_more b c w v count old new text before after events lines block e cut cu
       prefix = h.prefix ∙ (ap (before_told (schedule_of events)) cuts.prefix ∙ (before_told-before_told (schedule_of events) (schedule_text e ++ 10 ∷ []) (input_of new after) ∙ ap (λ xs. before_told xs (input_of new after)) (sym (schedule_more events e))));
     }
 
-pub cut_more : (old new : Reader) (before after : Option (List ℕ)) (events : List Event) (e : Event) → old.cut ≡ length (schedule_of events) → CutsEvent old new before after e → new.cut ≡ length (schedule_of (events ++ e ∷ []))
+pub cut_more :
+    (old new : Reader) (before after : Option (List ℕ)) (events : List Event) (e : Event)
+    → old.cut ≡ length (schedule_of events) → CutsEvent old new before after e
+    → new.cut ≡ length (schedule_of (events ++ e ∷ []))
 cut_more old new before after events e cut cuts =
     let counted = cuts.counted in
     omega (arith, ap length (schedule_more events e), length-append (schedule_of events) (schedule_text e ++ 10 ∷ []), length-append (schedule_text e) (10 ∷ []))

@@ -31,7 +31,9 @@ took_nothing : (x : Option (List ℕ)) → x ≡ after_told x []
 took_nothing None = refl
 took_nothing (Some xs) = ap Some (sym (append-nil xs))
 
-no_transcript : {B : Type 0} (state : B → BrickState) → IsTranscript [] [] (disk_of state []) (journals_of state [])
+no_transcript :
+    {B : Type 0} (state : B → BrickState)
+    → IsTranscript [] [] (disk_of state []) (journals_of state [])
 no_transcript state = record {
   legal = record { from = tt; whole = refl };
   follows = refl;
@@ -47,7 +49,9 @@ no_transcript state = record {
 }
 
 -- nothing of the text was carried out
-nothing_replayed : {B : Type 0} (state : B → BrickState) (bricks : List B) (text rest : Option (List ℕ)) → bricks ≡ [] → rest ≡ text → Replays state bricks text rest [] []
+nothing_replayed :
+    {B : Type 0} (state : B → BrickState) (bricks : List B) (text rest : Option (List ℕ))
+    → bricks ≡ [] → rest ≡ text → Replays state bricks text rest [] []
 nothing_replayed {B = B} state bricks text rest none same = record {
   done = record {
     schedule = tt;
@@ -60,7 +64,9 @@ nothing_replayed {B = B} state bricks text rest none same = record {
 }
 
 -- memory ran out before the first line
-pub nothing_done : {B : Type 0} (state : B → BrickState) (bricks : List B) (text before : Option (List ℕ)) → bricks ≡ [] → IsCutShort state bricks text before before
+pub nothing_done :
+    {B : Type 0} (state : B → BrickState) (bricks : List B) (text before : Option (List ℕ))
+    → bricks ≡ [] → IsCutShort state bricks text before before
 nothing_done state bricks text before none = record {
   events = [];
   lines = [];
@@ -71,11 +77,17 @@ nothing_done state bricks text before none = record {
   written = (0, took_nothing before);
 }
 
-bad_text : (old : Reader) (text : Option (List ℕ)) → old.pending ≡ [] → IfSome (input_of old text) (IsMalformed []) → IfSome text (IsMalformed [])
+bad_text :
+    (old : Reader) (text : Option (List ℕ)) → old.pending ≡ []
+    → IfSome (input_of old text) (IsMalformed []) → IfSome text (IsMalformed [])
 bad_text old text held bad = subst (λ (o : Option (List ℕ)). IfSome o (IsMalformed [])) (ap (λ xs. before_told xs text) held ∙ told_nothing text) bad
 
 -- the first line is invalid, or no volume's
-pub first_malformed : {B : Type 0} (state : B → BrickState) (bricks : List B) (old : Reader) (text before taken : Option (List ℕ)) → bricks ≡ [] → old.pending ≡ [] → IfSome (input_of old text) (IsMalformed []) → taken ≡ after_told before (malformed_text 1) → StopsAtLine state bricks text before taken
+pub first_malformed :
+    {B : Type 0} (state : B → BrickState) (bricks : List B) (old : Reader)
+    (text before taken : Option (List ℕ))
+    → bricks ≡ [] → old.pending ≡ [] → IfSome (input_of old text) (IsMalformed [])
+    → taken ≡ after_told before (malformed_text 1) → StopsAtLine state bricks text before taken
 unfolding lines_text
 first_malformed state bricks old text before taken none held bad told = record {
   events = [];
@@ -87,7 +99,11 @@ first_malformed state bricks old text before taken none held bad told = record {
 }
 
 -- and its number was written in part
-pub first_short : {B : Type 0} (state : B → BrickState) (bricks : List B) (old : Reader) (text before taken : Option (List ℕ)) → bricks ≡ [] → old.pending ≡ [] → IfSome (input_of old text) (IsMalformed []) → TakesPrefix before (malformed_text 1) taken → IsCutShort state bricks text before taken
+pub first_short :
+    {B : Type 0} (state : B → BrickState) (bricks : List B) (old : Reader)
+    (text before taken : Option (List ℕ))
+    → bricks ≡ [] → old.pending ≡ [] → IfSome (input_of old text) (IsMalformed [])
+    → TakesPrefix before (malformed_text 1) taken → IsCutShort state bricks text before taken
 unfolding lines_text
 first_short state bricks old text before taken none held bad told = record {
   events = [];
@@ -100,7 +116,11 @@ first_short state bricks old text before taken none held bad told = record {
 }
 
 -- the source failed before the first line
-first_failed : {B : Type 0} (state : B → BrickState) (bricks : List B) (old new : Reader) (text rest before : Option (List ℕ)) → bricks ≡ [] → old.pending ≡ [] → input_of new rest ≡ input_of old text → HasNoNewline new.pending → StopsAtSource state bricks text rest before before
+first_failed :
+    {B : Type 0} (state : B → BrickState) (bricks : List B) (old new : Reader)
+    (text rest before : Option (List ℕ))
+    → bricks ≡ [] → old.pending ≡ [] → input_of new rest ≡ input_of old text
+    → HasNoNewline new.pending → StopsAtSource state bricks text rest before before
 unfolding lines_text
 first_failed state bricks old new text rest before none held same no_line = record {
   events = [];
@@ -112,7 +132,10 @@ first_failed state bricks old new text rest before none held same no_line = reco
 }
 
 -- why the volume's line did not come
-pub no_first : {B : Type 0} (state : B → BrickState) (bricks : List B) (old new : Reader) (text rest before : Option (List ℕ)) (ending : Ending) → bricks ≡ [] → old.pending ≡ []
+pub no_first :
+    {B : Type 0} (state : B → BrickState) (bricks : List B) (old new : Reader)
+    (text rest before : Option (List ℕ)) (ending : Ending)
+    → bricks ≡ [] → old.pending ≡ []
     → (ending ≡ SourceFailed → (input_of new rest ≡ input_of old text) × HasNoNewline new.pending)
     → (ending ≡ Malformed → ⊥) → (ending ≡ Done → ⊥) → (ending ≡ Usage → ⊥) → (ending ≡ SinkFailed → ⊥) → (ending ≡ Limit → ⊥)
     → EndsAs state bricks text rest before before ending
@@ -125,7 +148,11 @@ no_first state bricks old new text rest before OutOfMemory none held failed nm n
 no_first state bricks old new text rest before SourceFailed none held failed nm nd nu nk nl = (let f = failed refl in first_failed state bricks old new text rest before none held f.0 f.1)
 
 -- the volume's line was carried out
-first_carried : {B C : Type 0} (b : BrickGhosts B) (c : CallerGhosts C) (w : World B C) (new : Reader) (text rest : Option (List ℕ)) (weights : List ℕ) → CutsVolume new text rest weights → w.lines ≡ 1 → IsAt b c w (VolumeLine weights ∷ []) → Carried b c w 1 text (input_of new rest) (VolumeEvent weights ∷ []) (VolumeLine weights ∷ [])
+first_carried :
+    {B C : Type 0} (b : BrickGhosts B) (c : CallerGhosts C) (w : World B C) (new : Reader)
+    (text rest : Option (List ℕ)) (weights : List ℕ)
+    → CutsVolume new text rest weights → w.lines ≡ 1 → IsAt b c w (VolumeLine weights ∷ [])
+    → Carried b c w 1 text (input_of new rest) (VolumeEvent weights ∷ []) (VolumeLine weights ∷ [])
 first_carried b c w new text rest weights first one at =
     let cuts = first.cuts in
     let cut = first.at_start in
@@ -145,7 +172,12 @@ first_carried b c w new text rest weights first one at =
       prefix = sym (ap (λ xs. before_told xs text) first.none_held ∙ told_nothing text) ∙ cuts.prefix;
     }
 
-pub so_far_first : {B C : Type 0} (b : BrickGhosts B) (c : CallerGhosts C) (w : World B C) (new : Reader) (text rest before taken : Option (List ℕ)) (weights : List ℕ) → CutsVolume new text rest weights → w.lines ≡ 1 → IsAt b c w (VolumeLine weights ∷ []) → taken ≡ after_told before (lines_text (VolumeLine weights ∷ [])) → SoFar b c w 1 new text rest before taken
+pub so_far_first :
+    {B C : Type 0} (b : BrickGhosts B) (c : CallerGhosts C) (w : World B C) (new : Reader)
+    (text rest before taken : Option (List ℕ)) (weights : List ℕ)
+    → CutsVolume new text rest weights → w.lines ≡ 1 → IsAt b c w (VolumeLine weights ∷ [])
+    → taken ≡ after_told before (lines_text (VolumeLine weights ∷ []))
+    → SoFar b c w 1 new text rest before taken
 so_far_first b c w new text rest before taken weights first one at told =
     let counted = first.cuts.counted in
     let cut = first.at_start in
@@ -157,7 +189,12 @@ so_far_first b c w new text rest before taken weights first one at told =
       written = told;
     }
 
-pub first_stopped : {B C : Type 0} (b : BrickGhosts B) (c : CallerGhosts C) (w : World B C) (new : Reader) (text rest before taken : Option (List ℕ)) (weights : List ℕ) → CutsVolume new text rest weights → w.lines ≡ 1 → IsAt b c w (VolumeLine weights ∷ []) → TakesPrefix before (lines_text (VolumeLine weights ∷ [])) taken → Stopped b c w text before taken
+pub first_stopped :
+    {B C : Type 0} (b : BrickGhosts B) (c : CallerGhosts C) (w : World B C) (new : Reader)
+    (text rest before taken : Option (List ℕ)) (weights : List ℕ)
+    → CutsVolume new text rest weights → w.lines ≡ 1 → IsAt b c w (VolumeLine weights ∷ [])
+    → TakesPrefix before (lines_text (VolumeLine weights ∷ [])) taken
+    → Stopped b c w text before taken
 first_stopped b c w new text rest before taken weights first one at told = record {
   events = VolumeEvent weights ∷ [];
   lines = VolumeLine weights ∷ [];

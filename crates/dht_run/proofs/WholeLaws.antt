@@ -25,7 +25,11 @@ all_scheduled [] h = tt
 all_scheduled (e ∷ es) h = (h.0, after_scheduled es h.2)
 
 -- what is left behind the first events of a schedule's text is the text of the others
-rest_of : ((o : Event) → IsScheduled o → IsOneLine (schedule_text o)) → (done all : List Event) (rest : List ℕ) → AreScheduled done → AreScheduled all → schedule_of all ≡ schedule_of done ++ rest → (more : List Event) × (all ≡ done ++ more) × (rest ≡ schedule_of more)
+rest_of :
+    ((o : Event) → IsScheduled o → IsOneLine (schedule_text o))
+    → (done all : List Event) (rest : List ℕ) → AreScheduled done → AreScheduled all
+    → schedule_of all ≡ schedule_of done ++ rest
+    → (more : List Event) × (all ≡ done ++ more) × (rest ≡ schedule_of more)
 rest_of one [] all rest d a e = (all, refl, sym e)
 rest_of one (x ∷ xs) [] rest d a e = absurd (let z : length ((schedule_text x ++ 10 ∷ schedule_of xs) ++ rest) ≡ 0 = ap length (sym e) in omega (arith, length-append (schedule_text x ++ 10 ∷ schedule_of xs) rest, length-append (schedule_text x) (10 ∷ schedule_of xs)))
 rest_of one (x ∷ xs) (y ∷ ys) rest d a e =
@@ -40,7 +44,9 @@ rest_of one (x ∷ xs) (y ∷ ys) rest d a e =
     cut [] a b h = cc
     cut (c ∷ t) a b h = cut t a b cc
 
-may_come : (done : List Event) (e : Event) (more : List Event) → IsSchedule (done ++ e ∷ more) → MayCome done e
+may_come :
+    (done : List Event) (e : Event) (more : List Event) → IsSchedule (done ++ e ∷ more)
+    → MayCome done e
 may_come [] e more h = (h.0, h.1)
 may_come (x ∷ xs) e more h = by xs h.2
   where
@@ -48,7 +54,11 @@ may_come (x ∷ xs) e more h = by xs h.2
     by [] h = (h.0, h.1)
     by (y ∷ ys) h = by ys h.2
 
-not_malformed : ((o : Event) → IsScheduled o → IsOneLine (schedule_text o)) → (done all : List Event) (rest : List ℕ) → IsSchedule done → IsSchedule all → all ≢ [] → length (schedule_of all) ≤ INPUT_LIMIT → schedule_of all ≡ schedule_of done ++ rest → IsMalformed done rest → ⊥
+not_malformed :
+    ((o : Event) → IsScheduled o → IsOneLine (schedule_text o))
+    → (done all : List Event) (rest : List ℕ) → IsSchedule done → IsSchedule all → all ≢ []
+    → length (schedule_of all) ≤ INPUT_LIMIT → schedule_of all ≡ schedule_of done ++ rest
+    → IsMalformed done rest → ⊥
 not_malformed one done all rest d a some limit e bad = (let r = rest_of one done all rest (all_scheduled done d) (all_scheduled all a) e in by r.0 r.1 r.2)
   where
     by : (more : List Event) → all ≡ done ++ more → rest ≡ schedule_of more → ⊥
@@ -59,7 +69,12 @@ not_malformed one done all rest d a some limit e bad = (let r = rest_of one done
         bad.no_line x (schedule_of more) (may_come done x more (subst IsSchedule f a)) g (omega arith)
 
 -- a whole schedule does not stop at a line
-pub not_at_line : {B : Type 0} (state : B → BrickState) (bricks : List B) (text before taken : Option (List ℕ)) (all : List Event) → ((o : Event) → IsScheduled o → IsOneLine (schedule_text o)) → all ≢ [] → IsSchedule all → length (schedule_of all) ≤ INPUT_LIMIT → text ≡ Some (schedule_of all) → StopsAtLine state bricks text before taken → ⊥
+pub not_at_line :
+    {B : Type 0} (state : B → BrickState) (bricks : List B) (text before taken : Option (List ℕ))
+    (all : List Event)
+    → ((o : Event) → IsScheduled o → IsOneLine (schedule_text o)) → all ≢ [] → IsSchedule all
+    → length (schedule_of all) ≤ INPUT_LIMIT → text ≡ Some (schedule_of all)
+    → StopsAtLine state bricks text before taken → ⊥
 not_at_line state bricks text before taken all one some a limit is h = by h.rest (sym is ∙ h.replays.done.prefix) h.malformed
   where
     by : (rest : Option (List ℕ)) → Some (schedule_of all) ≡ before_told (schedule_of h.events) rest → IfSome rest (IsMalformed h.events) → ⊥

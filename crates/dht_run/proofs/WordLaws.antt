@@ -11,7 +11,9 @@ abbrev IsLight : ℕ → Type 0
 IsLight w = w ≤ 1000
 
 -- words that spell weights up to one that spells none are no weights
-pub no_weights_at : (words : List (List ℕ)) (taken : List ℕ) (i : ℕ) (word : List ℕ) → i < length words → map decimal taken ≡ take i words → word ≡ get_or words i word
+pub no_weights_at :
+    (words : List (List ℕ)) (taken : List ℕ) (i : ℕ) (word : List ℕ) → i < length words
+    → map decimal taken ≡ take i words → word ≡ get_or words i word
     → ((w : ℕ) → w ≤ 1000 → decimal w ≢ word) → (ws : List ℕ) → All IsLight ws → map decimal ws ≢ words
 no_weights_at words taken i word within read is none ws light same =
     let rest = drop (suc i) words in
@@ -20,7 +22,8 @@ no_weights_at words taken i word within read is none ws light same =
     no_weights taken word rest none ws (recursion_from_All IsLight ws light) (same ∙ sym split)
 
 -- the weights of a layout are those that its words spell
-pub one_layout : (words : List (List ℕ)) (v w : List ℕ) → IsLayout words v → IsLayout words w → v ≡ w
+pub one_layout :
+    (words : List (List ℕ)) (v w : List ℕ) → IsLayout words v → IsLayout words w → v ≡ w
 one_layout words v w hv hw =
     let a = hv.are in
     let b = hw.are in
@@ -35,7 +38,8 @@ no_hash : (behind names : List (List ℕ)) → IsHash (codes "layout" ∷ behind
 no_hash behind names h = let letters : ◌≡◌ {A = ℕ} 108 104 = ap letter h.are in absurd (omega arith)
 
 -- weights that are not those of a volume
-pub no_layout : (behind : List (List ℕ)) (weights : List ℕ) → map decimal weights ≡ behind → All IsLight weights
+pub no_layout :
+    (behind : List (List ℕ)) (weights : List ℕ) → map decimal weights ≡ behind → All IsLight weights
     → ((1 ≤ length weights) × (length weights ≤ 32) × HasWeight weights → ⊥) → IsCommand (codes "layout" ∷ behind) → ⊥
 no_layout behind weights spell light none (inl same) = let letters : ◌≡◌ {A = ℕ} 108 114 = ap letter same in absurd (omega arith)
 no_layout behind weights spell light none (inr (inl hash)) = no_hash behind hash.0 hash.1

@@ -23,7 +23,8 @@ ranges_text b (range ∷ ranges) = range_line b (value_of range) ++ ranges_text 
 unfoldable pub layout_text : List ℕ → List ℕ
 layout_text weights = ranges_text 0 (planned weights root)
 
--- how a command that prints a text ends: at status 0 the text was written, and at 5 and 6 a prefix of it
+-- how a command that prints a text ends: at status 0
+-- the text was written, and at 5 and 6 a prefix of it
 pub record IsPrinted (text : List ℕ) (before taken : Option (List ℕ)) (status : ℕ) : Type 0 where
   pub ends : (status ≡ 0) ⊎ ((status ≡ 5) ⊎ (status ≡ 6))
   pub whole : status ≡ 0 → taken ≡ after_told before text

@@ -25,17 +25,21 @@ IsWithinLimits cut len = (len + 1 ≤ LINE_LIMIT) × (cut + len + 1 ≤ INPUT_LI
 -- after so many bytes, this input goes on, and not with a whole line within the limits
 pub record HasNoLine (cut : ℕ) (input : List ℕ) : Type 0 where
   pub goes_on : input ≢ []
-  pub no_line : (line rest : List ℕ) → input ≡ line ++ 10 ∷ rest → HasNoNewline line → ¬ IsWithinLimits cut (length line)
+  pub no_line :
+      (line rest : List ℕ) → input ≡ line ++ 10 ∷ rest → HasNoNewline line
+      → ¬ IsWithinLimits cut (length line)
 
 -- a line was cut off the input
 pub record CutsLine (old new : Reader) (variant_before left_after : Option (List ℕ)) : Type 0 where
   pub no_newline : HasNoNewline new.line
-  pub prefix : input_of old variant_before ≡ before_told (new.line ++ 10 ∷ []) (input_of new left_after)
+  pub prefix :
+      input_of old variant_before ≡ before_told (new.line ++ 10 ∷ []) (input_of new left_after)
   pub counted : new.cut ≡ old.cut + length new.line + 1
   pub within : IsWithinLimits old.cut (length new.line)
 
 -- nothing was cut off the input
-pub record CutsNothing (old new : Reader) (variant_before left_after : Option (List ℕ)) : Type 0 where
+pub record CutsNothing (old new : Reader) (variant_before left_after : Option (List ℕ))
+    : Type 0 where
   pub line : new.line ≡ []
   pub input : input_of new left_after ≡ input_of old variant_before
   pub counted : new.cut ≡ old.cut
@@ -48,10 +52,13 @@ pub record IsFirstNewline (bytes : List ℕ) (at : ℕ) : Type 0 where
 
 -- the bytes that are held are as many as a line, or the whole input, may have
 abbrev pub IsFull : Reader → Type 0
-IsFull r = (0 < length r.pending) × ((LINE_LIMIT ≤ length r.pending) ⊎ (INPUT_LIMIT ≤ r.cut + length r.pending))
+IsFull r =
+    (0 < length r.pending)
+    × ((LINE_LIMIT ≤ length r.pending) ⊎ (INPUT_LIMIT ≤ r.cut + length r.pending))
 
 -- this many bytes of the source were added to those that are held
-pub record Adds (old new : Reader) (n : ℕ) (variant_before left_after : Option (List ℕ)) : Type 0 where
+pub record Adds (old new : Reader) (n : ℕ) (variant_before left_after : Option (List ℕ))
+    : Type 0 where
   pub added : List ℕ
   pub many : length added ≡ n
   pub held : new.pending ≡ old.pending ++ added

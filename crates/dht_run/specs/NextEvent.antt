@@ -8,9 +8,11 @@ use Rattle.dht_run.specs.Outside.{before_told}
 use Rattle.dht_run.specs.declared.line_reader.TheConstants.{INPUT_LIMIT}
 
 -- the line of an event was cut off the input
-pub record CutsEvent (old new : Reader) (variant_before left_after : Option (List ℕ)) (e : Event) : Type 0 where
+pub record CutsEvent (old new : Reader) (variant_before left_after : Option (List ℕ)) (e : Event)
+    : Type 0 where
   pub scheduled : IsScheduled e
-  pub prefix : input_of old variant_before ≡ before_told (schedule_text e ++ 10 ∷ []) (input_of new left_after)
+  pub prefix :
+      input_of old variant_before ≡ before_told (schedule_text e ++ 10 ∷ []) (input_of new left_after)
   pub counted : new.cut ≡ old.cut + length (schedule_text e) + 1
   pub within : new.cut ≤ INPUT_LIMIT
   -- its text is of no other event
@@ -26,4 +28,6 @@ pub record CutsVolume (new : Reader) (text left : Option (List ℕ)) (weights : 
 -- after so many bytes, the input goes on, and not with the line of an event
 pub record HasNoEvent (cut : ℕ) (input : List ℕ) : Type 0 where
   pub goes_on : input ≢ []
-  pub no_event : (e : Event) (more : List ℕ) → IsScheduled e → input ≡ schedule_text e ++ 10 ∷ more → cut + length (schedule_text e) + 1 ≤ INPUT_LIMIT → ⊥
+  pub no_event :
+      (e : Event) (more : List ℕ) → IsScheduled e → input ≡ schedule_text e ++ 10 ∷ more
+      → cut + length (schedule_text e) + 1 ≤ INPUT_LIMIT → ⊥

@@ -31,7 +31,10 @@ pub record IsLayout (words : List (List ℕ)) (weights : List ℕ) : Type 0 wher
 
 -- the words are a command
 abbrev pub IsCommand : List (List ℕ) → Type 0
-IsCommand words = IsReplay words ⊎ (((names : List (List ℕ)) × IsHash words names) ⊎ ((weights : List ℕ) × IsLayout words weights))
+IsCommand words =
+    IsReplay words
+    ⊎ (((names : List (List ℕ)) × IsHash words names)
+    ⊎ ((weights : List ℕ) × IsLayout words weights))
 
 -- the words ask for this
 abbrev pub AskFor : List (List ℕ) → Command → Type 0

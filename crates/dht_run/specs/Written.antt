@@ -12,6 +12,7 @@ TakesPrefix before text taken = (n : ℕ) × (taken ≡ after_told before (take 
 abbrev pub IsCause : Ending → Type 0 → Type 0
 IsCause ending fault = ((ending ≡ SinkFailed) × fault) ⊎ (ending ≡ OutOfMemory)
 
--- why an event did not happen, or its lines were not written whole: the run has had all its steps, or one of these
+-- why an event did not happen, or its lines were not written
+-- whole: the run has had all its steps, or one of these
 abbrev pub IsEventCause : Ending → Type 0 → Type 0
 IsEventCause ending fault = (ending ≡ Limit) ⊎ IsCause ending fault

@@ -19,8 +19,8 @@ use std::alloc::{AllocError, Global};
 /// A kind of brick of which new ones can be made.
 pub trait NewBrick: Brick {
     /// A new brick of this number, which knows this volume and fails only where it is armed. It has
-    /// the root alone: with its planned range if it is among the first bricks of the volume, and with
-    /// none if it comes later.
+    /// the root alone: with its planned range if it is among the first bricks of the volume, and
+    /// with none if it comes later.
     fn new_brick(
         alloc: Global,
         volume: &Volume,

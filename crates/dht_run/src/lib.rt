@@ -1,5 +1,5 @@
-//! A run of the program over any source and any sink: the words of the command line, the replay of a
-//! schedule over bricks in memory, and the commands that print.
+//! A run of the program over any source and any sink: the words of the command line, the replay of
+//! a schedule over bricks in memory, and the commands that print.
 //!
 //! - `words`: what the words ask for
 //! - `run`: the one call that the program makes, and the bricks that it leaves

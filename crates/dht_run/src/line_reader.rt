@@ -97,8 +97,8 @@ impl LineReader {
         ensures failed { result ≡ Next.Failed
             → HasFault (S.faults source.old) (S.faults source.new) × HasNoNewline self.new.pending }
 
-        // The source is not asked where a whole line is held. What was read in all is at most a byte
-        // more than the limit.
+        // The source is not asked where a whole line is held. What was read in all is at most a
+        // byte more than the limit.
         ensures unasked { Contains self.old.pending 10 → source.new ≡ source.old }
         ensures bounded { self.new.cut + length self.new.pending ≤ INPUT_LIMIT + 1 }
 

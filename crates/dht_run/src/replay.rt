@@ -1,5 +1,5 @@
-//! A replay: the volume line, then one event after another, each one's lines written before the next
-//! is read, and at last what stands behind them.
+//! A replay: the volume line, then one event after another, each one's lines written before the
+//! next is read, and at last what stands behind them.
 
 ghost use Rattle.std.specs.Prelude.{◌≡◌, ◌≢◌, ◌+◌, ◌++◌, ◌<◌, ◌≤◌, ◌^◌, ◌⊎◌, ◌↔◌, ℕ, true, false, Option, None, List, [], ◌∷◌, Err, IsOk, IfOk, OnOk, OnErr, IfErr, IfSome, length, take, vec_len};
 ghost use Rattle.dht_types.specs.declared.events.Event.{Event as AnEvent};
@@ -237,8 +237,8 @@ fn is_volume(event: &Event) -> bool
     }
 }
 
-/// Carries out the events that come, `count` of them so far, until the input ends or something stops
-/// the run.
+/// Carries out the events that come, `count` of them so far, until the input ends or something
+/// stops the run.
 fn go_on<B: NewBrick + Drop, C: Caller + Drop, S: Source, K: Sink>(
     alloc: Global,
     world: &mut World<B, C>,

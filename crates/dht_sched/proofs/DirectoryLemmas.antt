@@ -73,7 +73,9 @@ directory_begins (OfCall k) = omega arith
 directory_begins (OfGfid g) = omega (arith, length-gfid_text g)
 
 -- a word is of one directory
-pub same_directory : (a b : Directory) → IsScheduledDirectory a → IsScheduledDirectory b → directory_word a ≡ directory_word b → a ≡ b
+pub same_directory :
+    (a b : Directory) → IsScheduledDirectory a → IsScheduledDirectory b
+    → directory_word a ≡ directory_word b → a ≡ b
 same_directory Root Root ha hb same = refl
 same_directory Root (OfCall k) ha hb same = absurd (let some = decimal_nonempty k hb in let size = ap length same in omega arith)
 same_directory Root (OfGfid g) ha hb same = absurd (gfid_begins g [] (sym same))
@@ -89,7 +91,10 @@ same_directory (OfGfid f) (OfGfid g) ha hb same = ap OfGfid (gfid_text_tells f g
 pub no_directory : (word : List ℕ) → length word ≡ 0 → (d : Directory) → directory_word d ≢ word
 no_directory word none d same = let some = directory_begins d in let size = ap length same in omega arith
 
-pub no_number : (word rest : List ℕ) (first : ℕ) → word ≡ first ∷ rest → first ≡ 64 → 0 < length rest → ((k : ℕ) → k < 2 ^ 64 → decimal k ≢ rest) → (d : Directory) → IsScheduledDirectory d → directory_word d ≢ word
+pub no_number :
+    (word rest : List ℕ) (first : ℕ) → word ≡ first ∷ rest → first ≡ 64 → 0 < length rest
+    → ((k : ℕ) → k < 2 ^ 64 → decimal k ≢ rest) → (d : Directory) → IsScheduledDirectory d
+    → directory_word d ≢ word
 no_number word rest first starts at some none Root h same = let nothing : [] ≡ rest = cc (starts, same) in let size = ap length nothing in omega arith
 no_number word rest first starts at some none (OfCall k) h same = none k h (cc (starts, same))
 no_number word rest first starts at some none (OfGfid g) h same = gfid_begins g rest (same ∙ starts ∙ ap (λ x. x ∷ rest) at)

@@ -29,7 +29,8 @@ pub encode_one : (b : ℕ) → b < 256 → encode_lower (b ∷ []) ≡ hex_bytes
 unfolding encode_with
 encode_one b small = rw (digit_is (b / 16) (omega arith), digit_is (b % 16) (omega arith)) refl
 
-encode_all : (bytes : List ℕ) → AllByRecursion (λ b. b < 256) bytes → encode_lower bytes ≡ hex_bytes bytes
+encode_all :
+    (bytes : List ℕ) → AllByRecursion (λ b. b < 256) bytes → encode_lower bytes ≡ hex_bytes bytes
 unfolding encode_with
 encode_all [] small = refl
 encode_all (b ∷ bytes) small =

@@ -28,14 +28,19 @@ abbrev IsLight : ℕ → Type 0
 IsLight w = w ≤ 1000
 
 -- where a word is no weight, the words are no weights
-pub no_weights : (taken : List ℕ) (word : List ℕ) (rest : List (List ℕ)) → ((w : ℕ) → w ≤ 1000 → decimal w ≢ word) → (ws : List ℕ) → AllByRecursion IsLight ws → map decimal ws ≢ map decimal taken ++ word ∷ rest
+pub no_weights :
+    (taken : List ℕ) (word : List ℕ) (rest : List (List ℕ))
+    → ((w : ℕ) → w ≤ 1000 → decimal w ≢ word) → (ws : List ℕ) → AllByRecursion IsLight ws
+    → map decimal ws ≢ map decimal taken ++ word ∷ rest
 no_weights [] word rest none [] light same = cc same
 no_weights [] word rest none (w ∷ ws) light same = none w light.0 (cc same)
 no_weights (t ∷ taken) word rest none [] light same = cc same
 no_weights (t ∷ taken) word rest none (w ∷ ws) light same = no_weights taken word rest none ws light.1 (cc same)
 
 -- words are of one list of weights
-pub same_weights : (v w : List ℕ) → AllByRecursion IsLight v → AllByRecursion IsLight w → map decimal v ≡ map decimal w → v ≡ w
+pub same_weights :
+    (v w : List ℕ) → AllByRecursion IsLight v → AllByRecursion IsLight w
+    → map decimal v ≡ map decimal w → v ≡ w
 same_weights [] [] hv hw same = refl
 same_weights [] (y ∷ w) hv hw same = absurd (cc same)
 same_weights (x ∷ v) [] hv hw same = absurd (cc same)
@@ -68,13 +73,19 @@ names_are_words : (name : Option (List ℕ)) → HasBytes name → AllByRecursio
 names_are_words None h = tt
 names_are_words (Some n) h = (name_word n h, tt)
 
-call_words_are : (c : ℕ) (call : Call Directory) → IsScheduledCall c call → AllByRecursion IsWord (schedule_words (Called c call))
+call_words_are :
+    (c : ℕ) (call : Call Directory) → IsScheduledCall c call
+    → AllByRecursion IsWord (schedule_words (Called c call))
 call_words_are c call h = (refl, (decimal_word c h.client, (verb_is_word call, (directory_is_word (directory_of call) h.directory, names_are_words (name_of call) h.name))))
 
-number_words_are : (word : List ℕ) (c : ℕ) → IsWord word → c < 2 ^ 64 → AllByRecursion IsWord (word ∷ decimal c ∷ [])
+number_words_are :
+    (word : List ℕ) (c : ℕ) → IsWord word → c < 2 ^ 64
+    → AllByRecursion IsWord (word ∷ decimal c ∷ [])
 number_words_are word c h small = (h, (decimal_word c small, tt))
 
-bricks_words_are : (word w : List ℕ) → IsWord word → IsScheduledVolume w → AllByRecursion IsWord (word ∷ bricks_words w)
+bricks_words_are :
+    (word w : List ℕ) → IsWord word → IsScheduledVolume w
+    → AllByRecursion IsWord (word ∷ bricks_words w)
 bricks_words_are word w first h = let few = h.few in (first, (decimal_word (length w) (omega arith), weight_words w (recursion_from_All IsLight w h.light)))
 
 -- a line has the words of its event
@@ -93,13 +104,19 @@ length-weights : (w : List ℕ) → AllByRecursion IsLight w → room (map decim
 length-weights [] light = omega arith
 length-weights (x ∷ w) light = let first = length-decimal x light.0 in let others = length-weights w light.1 in omega arith
 
-one_line_of : (words : List (List ℕ)) → AllByRecursion IsWord words → room words < 16384 → IsOneLine (spaced words)
+one_line_of :
+    (words : List (List ℕ)) → AllByRecursion IsWord words → room words < 16384
+    → IsOneLine (spaced words)
 one_line_of words h few = record { one = no_newline words h; short = (let size = length-spaced-le words in omega arith) }
 
-number_line : (word : List ℕ) (c : ℕ) → IsWord word → length word ≤ 4 → c < 2 ^ 64 → IsOneLine (spaced (word ∷ decimal c ∷ []))
+number_line :
+    (word : List ℕ) (c : ℕ) → IsWord word → length word ≤ 4 → c < 2 ^ 64
+    → IsOneLine (spaced (word ∷ decimal c ∷ []))
 number_line word c h short small = let digits = length-number c small in one_line_of (word ∷ decimal c ∷ []) (number_words_are word c h small) (omega arith)
 
-bricks_line : (word w : List ℕ) → IsWord word → length word ≤ 7 → IsScheduledVolume w → IsOneLine (spaced (word ∷ bricks_words w))
+bricks_line :
+    (word w : List ℕ) → IsWord word → length word ≤ 7 → IsScheduledVolume w
+    → IsOneLine (spaced (word ∷ bricks_words w))
 bricks_line word w first short h =
     let few = h.few in
     let bricks = length-decimal (length w) (omega arith) in
@@ -139,7 +156,9 @@ call_told first d (Some n) =
     else if first == 117 then Unlink d n
     else Rmdir d n
 
-told : (call : Call Directory) → call_told (letter (verb_word call)) (directory_of call) (name_of call) ≡ call
+told :
+    (call : Call Directory)
+    → call_told (letter (verb_word call)) (directory_of call) (name_of call) ≡ call
 unfolding call_told
 told (Lookup d n) = refl
 told (Create d n) = refl
@@ -148,7 +167,9 @@ told (Unlink d n) = refl
 told (Rmdir d n) = refl
 told (Heal d) = refl
 
-same_call : (a b : Call Directory) → verb_word a ≡ verb_word b → directory_of a ≡ directory_of b → name_of a ≡ name_of b → a ≡ b
+same_call :
+    (a b : Call Directory) → verb_word a ≡ verb_word b → directory_of a ≡ directory_of b
+    → name_of a ≡ name_of b → a ≡ b
 same_call a b verb directory name =
     sym (told a) ∙ (λ i. call_told (letter (verb i)) (directory i) (name i)) ∙ told b
 
@@ -158,16 +179,21 @@ same_names None (Some n) ha hb same = absurd (cc same)
 same_names (Some m) None ha hb same = absurd (cc same)
 same_names (Some m) (Some n) ha hb same = ap Some (same_name m n ha hb (cc same))
 
-call_by_words : (c : ℕ) (x : Call Directory) (e : ℕ) (y : Call Directory) → IsScheduledCall c x → IsScheduledCall e y → decimal c ∷ call_words x ≡ decimal e ∷ call_words y → (c ≡ e) × (x ≡ y)
+call_by_words :
+    (c : ℕ) (x : Call Directory) (e : ℕ) (y : Call Directory) → IsScheduledCall c x
+    → IsScheduledCall e y → decimal c ∷ call_words x ≡ decimal e ∷ call_words y → (c ≡ e) × (x ≡ y)
 call_by_words c x e y hx hy same =
     let directory = same_directory (directory_of x) (directory_of y) hx.directory hy.directory (cc same) in
     let name = same_names (name_of x) (name_of y) hx.name hy.name (cc same) in
     (decimal_injective c e hx.client hy.client (cc same), same_call x y (cc same) directory name)
 
-same_bricks : (v w : List ℕ) → IsScheduledVolume v → IsScheduledVolume w → map decimal v ≡ map decimal w → v ≡ w
+same_bricks :
+    (v w : List ℕ) → IsScheduledVolume v → IsScheduledVolume w → map decimal v ≡ map decimal w
+    → v ≡ w
 same_bricks v w hv hw same = same_weights v w (recursion_from_All IsLight v hv.light) (recursion_from_All IsLight w hw.light) same
 
-pub same_event : (a b : Event) → IsScheduled a → IsScheduled b → schedule_words a ≡ schedule_words b → a ≡ b
+pub same_event :
+    (a b : Event) → IsScheduled a → IsScheduled b → schedule_words a ≡ schedule_words b → a ≡ b
 same_event (Volume v) (Volume w) ha hb same = ap Volume (same_bricks v w ha hb (cc same))
 same_event (Volume x) (Remount y) ha hb same = absurd (let letters : 118 ≡ 114 = ap kind same in omega arith)
 same_event (Volume x) (Called y ycall) ha hb same = absurd (let letters : 118 ≡ 99 = ap kind same in omega arith)
@@ -221,14 +247,22 @@ same_event (Die x) (Die y) ha hb same = ap Die (decimal_injective x y ha hb (cc 
 -- ---- what a line's words tell
 
 -- a line's words are those of an event just where the line is its text
-line_words : (line : List ℕ) (e : Event) → IsScheduled e → line ≡ schedule_text e → schedule_words e ≡ words_of line
+line_words :
+    (line : List ℕ) (e : Event) → IsScheduled e → line ≡ schedule_text e
+    → schedule_words e ≡ words_of line
 line_words line e h same = sym (words_of_text e h) ∙ ap words_of (sym same)
 
-pub read_text : (line : List ℕ) (r : Result Event LineFault) → ReadsUnless schedule_words IsScheduled (words_of line) r → IfOk r (λ e. line ≡ schedule_text e)
+pub read_text :
+    (line : List ℕ) (r : Result Event LineFault)
+    → ReadsUnless schedule_words IsScheduled (words_of line) r
+    → IfOk r (λ e. line ≡ schedule_text e)
 read_text line (Ok e) h = sym (spaced-words_of line) ∙ ap spaced (sym h.1)
 read_text line (Err f) h = tt
 
-pub read_malformed : (line : List ℕ) (r : Result Event LineFault) → ReadsUnless schedule_words IsScheduled (words_of line) r → IsErrOf r Malformed → (e : Event) → IsScheduled e → line ≢ schedule_text e
+pub read_malformed :
+    (line : List ℕ) (r : Result Event LineFault)
+    → ReadsUnless schedule_words IsScheduled (words_of line) r → IsErrOf r Malformed → (e : Event)
+    → IsScheduled e → line ≢ schedule_text e
 read_malformed line r h bad e fits same =
     let none = subst (λ (x : Result Event LineFault). ReadsUnless schedule_words IsScheduled (words_of line) x) bad h in
     none e fits (line_words line e fits same)
@@ -259,7 +293,11 @@ is_read (Down b) = refl
 is_read (Up b) = refl
 is_read (Die c) = refl
 
-pub read_only : (line : List ℕ) (r : Result Event LineFault) → ReadsUnless schedule_words IsScheduled (words_of line) r → (IsErrOf r OutOfMemory → TakesMemory (words_of line)) → (e : Event) → IsScheduled e → line ≡ schedule_text e → IsReadOf e r
+pub read_only :
+    (line : List ℕ) (r : Result Event LineFault)
+    → ReadsUnless schedule_words IsScheduled (words_of line) r
+    → (IsErrOf r OutOfMemory → TakesMemory (words_of line)) → (e : Event) → IsScheduled e
+    → line ≡ schedule_text e → IsReadOf e r
 read_only line (Ok f) h memory e fits same =
     let f_is : e ≡ f = same_event e f fits h.0 (line_words line e fits same ∙ sym h.1) in
     subst (λ (x : Event). IsReadOf e (Ok x)) f_is (is_read e)
@@ -267,24 +305,36 @@ read_only line (Err Malformed) h memory e fits same = absurd (h e fits (line_wor
 read_only line (Err OutOfMemory) h memory e fits same = out_of_memory e (subst TakesMemory (sym (line_words line e fits same)) (memory refl))
 
 -- a line that is too long
-pub too_long : (line : List ℕ) → 16384 ≤ length line → (e : Event) → IsScheduled e → line ≢ schedule_text e
+pub too_long :
+    (line : List ℕ) → 16384 ≤ length line → (e : Event) → IsScheduled e → line ≢ schedule_text e
 too_long line long e h same = let short = (event_line e h).short in let size = ap length same in omega arith
 
-pub short_words : (line : List ℕ) (words : List (List ℕ)) → words ≡ words_of line → length line < 16384 → IsShort (spaced words)
+pub short_words :
+    (line : List ℕ) (words : List (List ℕ)) → words ≡ words_of line → length line < 16384
+    → IsShort (spaced words)
 short_words line words are short = let size = ap length (ap spaced are ∙ spaced-words_of line) in omega arith
 
 -- ---- the parts of lines
 
 -- the words behind the first one
-pub kind_words : (words rest : List (List ℕ)) (kind word : List ℕ) → words ≡ kind ∷ rest → kind ≡ word → words ≡ word ∷ rest
+pub kind_words :
+    (words rest : List (List ℕ)) (kind word : List ℕ) → words ≡ kind ∷ rest → kind ≡ word
+    → words ≡ word ∷ rest
 kind_words words rest kind word starts is = cc
 
-pub reads_or : (words : List (List ℕ)) (r : Option Event) (result : Result Event LineFault) → result ≡ ok_or r Malformed → Reads schedule_words IsScheduled words r → ReadsUnless schedule_words IsScheduled words result
+pub reads_or :
+    (words : List (List ℕ)) (r : Option Event) (result : Result Event LineFault)
+    → result ≡ ok_or r Malformed → Reads schedule_words IsScheduled words r
+    → ReadsUnless schedule_words IsScheduled words result
 reads_or words None result is h = rw is h
 reads_or words (Some e) result is h = rw is h
 
 -- words that are no call's
-pub no_call : (words : List (List ℕ)) → ((c : ℕ) (call : Call Directory) → IsScheduledCall c call → words ≢ decimal c ∷ call_words call) → (e : Event) → IsScheduled e → schedule_words e ≢ codes "call" ∷ words
+pub no_call :
+    (words : List (List ℕ))
+    → ((c : ℕ) (call : Call Directory) → IsScheduledCall c call
+    → words ≢ decimal c ∷ call_words call)
+    → (e : Event) → IsScheduled e → schedule_words e ≢ codes "call" ∷ words
 no_call words none (Volume w) h same = absurd (let letters : 118 ≡ 99 = ap kind same in omega arith)
 no_call words none (Remount w) h same = absurd (let letters : 114 ≡ 99 = ap kind same in omega arith)
 no_call words none (Called c call) h same = none c call h (cc same)
@@ -294,7 +344,9 @@ no_call words none (Up b) h same = absurd (let letters : 117 ≡ 99 = ap kind sa
 no_call words none (Die c) h same = absurd (let letters : 100 ≡ 99 = ap kind same in omega arith)
 
 -- a word that is no verb with a name
-pub no_verb_with_name : (verb name : List ℕ) → verb ≢ codes "lookup" → verb ≢ codes "create" → verb ≢ codes "mkdir" → verb ≢ codes "unlink" → verb ≢ codes "rmdir"
+pub no_verb_with_name :
+    (verb name : List ℕ) → verb ≢ codes "lookup" → verb ≢ codes "create" → verb ≢ codes "mkdir"
+    → verb ≢ codes "unlink" → verb ≢ codes "rmdir"
     → (call : Call Directory) → name_of call ≡ Some name → verb_word call ≢ verb
 no_verb_with_name verb name lookup create mkdir unlink rmdir (Lookup d n) has same = lookup (sym same)
 no_verb_with_name verb name lookup create mkdir unlink rmdir (Create d n) has same = create (sym same)
@@ -304,7 +356,9 @@ no_verb_with_name verb name lookup create mkdir unlink rmdir (Rmdir d n) has sam
 no_verb_with_name verb name lookup create mkdir unlink rmdir (Heal d) has same = cc has
 
 -- words whose verb is none
-pub no_verb : (words rest others left : List (List ℕ)) (verb : List ℕ) (client : ℕ) (directory : Directory) (name : Option (List ℕ))
+pub no_verb :
+    (words rest others left : List (List ℕ)) (verb : List ℕ) (client : ℕ) (directory : Directory)
+    (name : Option (List ℕ))
     → words ≡ decimal client ∷ rest → rest ≡ verb ∷ others → others ≡ directory_word directory ∷ left → HasBytes name → name_words name ≡ left
     → ((call : Call Directory) → name_of call ≡ name → verb_word call ≢ verb) → (e : Event) → IsScheduled e → schedule_words e ≢ codes "call" ∷ words
 no_verb words rest others left verb client directory name first second third has fourth none =
@@ -315,12 +369,17 @@ no_verb words rest others left verb client directory name first second third has
     none call named (cc all))
 
 -- where no item came, none was left
-pub none_left : (words rest : List (List ℕ)) (o : Option (Bor (List ℕ))) → MatchOption o ((words ≡ []) × (rest ≡ [])) (λ x. words ≡ x.now ∷ rest) → is_some o ≡ false → words ≡ []
+pub none_left :
+    (words rest : List (List ℕ)) (o : Option (Bor (List ℕ)))
+    → MatchOption o ((words ≡ []) × (rest ≡ [])) (λ x. words ≡ x.now ∷ rest) → is_some o ≡ false
+    → words ≡ []
 none_left words rest None h e = h.0
 none_left words rest (Some x) h e = absurd (false≢true (sym e))
 
 -- weights that are none of a volume
-pub no_bricks : (words others : List (List ℕ)) (bricks : ℕ) (word : List ℕ) (w : List ℕ) → words ≡ word ∷ others → bricks < 2 ^ 64 → decimal bricks ≡ word → All IsLight w → map decimal w ≡ others
+pub no_bricks :
+    (words others : List (List ℕ)) (bricks : ℕ) (word : List ℕ) (w : List ℕ) → words ≡ word ∷ others
+    → bricks < 2 ^ 64 → decimal bricks ≡ word → All IsLight w → map decimal w ≡ others
     → (bricks ≡ length w → (1 ≤ length w) × (length w ≤ 32) × HasWeight w → ⊥) → (v : List ℕ) → IsScheduledVolume v → bricks_words v ≢ words
 no_bricks words others bricks word w e small text light weights none v h same =
     let few = h.few in
@@ -332,7 +391,9 @@ no_bricks words others bricks word w e small text light weights none v h same =
 abbrev IsNoBricks : List (List ℕ) → Type 0
 IsNoBricks words = (v : List ℕ) → IsScheduledVolume v → bricks_words v ≢ words
 
-pub no_volume : (words : List (List ℕ)) → IsNoBricks words → (e : Event) → IsScheduled e → schedule_words e ≢ codes "volume" ∷ words
+pub no_volume :
+    (words : List (List ℕ)) → IsNoBricks words → (e : Event) → IsScheduled e
+    → schedule_words e ≢ codes "volume" ∷ words
 no_volume words none (Volume w) h same = none w h (cc same)
 no_volume words none (Remount w) h same = absurd (let letters : 114 ≡ 118 = ap kind same in omega arith)
 no_volume words none (Called c call) h same = absurd (let letters : 99 ≡ 118 = ap kind same in omega arith)
@@ -341,7 +402,9 @@ no_volume words none (Down b) h same = absurd (let letters : 100 ≡ 118 = ap ki
 no_volume words none (Up b) h same = absurd (let letters : 117 ≡ 118 = ap kind same in omega arith)
 no_volume words none (Die c) h same = absurd (let letters : 100 ≡ 118 = ap kind same in omega arith)
 
-pub no_remount : (words : List (List ℕ)) → IsNoBricks words → (e : Event) → IsScheduled e → schedule_words e ≢ codes "remount" ∷ words
+pub no_remount :
+    (words : List (List ℕ)) → IsNoBricks words → (e : Event) → IsScheduled e
+    → schedule_words e ≢ codes "remount" ∷ words
 no_remount words none (Volume w) h same = absurd (let letters : 118 ≡ 114 = ap kind same in omega arith)
 no_remount words none (Remount w) h same = none w h (cc same)
 no_remount words none (Called c call) h same = absurd (let letters : 99 ≡ 114 = ap kind same in omega arith)
@@ -351,7 +414,10 @@ no_remount words none (Up b) h same = absurd (let letters : 117 ≡ 114 = ap kin
 no_remount words none (Die c) h same = absurd (let letters : 100 ≡ 114 = ap kind same in omega arith)
 
 -- words whose first is none of an event's
-pub no_first : (words rest : List (List ℕ)) (kind : List ℕ) → words ≡ kind ∷ rest → kind ≢ codes "volume" → kind ≢ codes "remount" → kind ≢ codes "call" → kind ≢ codes "step" → kind ≢ codes "down" → kind ≢ codes "up" → kind ≢ codes "die"
+pub no_first :
+    (words rest : List (List ℕ)) (kind : List ℕ) → words ≡ kind ∷ rest → kind ≢ codes "volume"
+    → kind ≢ codes "remount" → kind ≢ codes "call" → kind ≢ codes "step" → kind ≢ codes "down"
+    → kind ≢ codes "up" → kind ≢ codes "die"
     → (e : Event) → IsScheduled e → schedule_words e ≢ words
 no_first words rest kind starts volume remount call step down up die (Volume w) h same = volume (cc (same, starts))
 no_first words rest kind starts volume remount call step down up die (Remount w) h same = remount (cc (same, starts))

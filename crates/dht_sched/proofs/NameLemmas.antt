@@ -19,7 +19,9 @@ pub spelled_plain : (b : ℕ) → is_plain b ≡ true → spelled_byte b ≡ b �
 unfolding spelled_byte
 spelled_plain b h = cond-true (is_plain b) (b ∷ []) (37 ∷ hex_digit (b / 16) ∷ hex_digit (b % 16) ∷ []) h
 
-pub spelled_escaped : (b : ℕ) → is_plain b ≡ false → spelled_byte b ≡ 37 ∷ hex_digit (b / 16) ∷ hex_digit (b % 16) ∷ []
+pub spelled_escaped :
+    (b : ℕ) → is_plain b ≡ false
+    → spelled_byte b ≡ 37 ∷ hex_digit (b / 16) ∷ hex_digit (b % 16) ∷ []
 unfolding spelled_byte
 spelled_escaped b h = cond-false (is_plain b) (b ∷ []) (37 ∷ hex_digit (b / 16) ∷ hex_digit (b % 16) ∷ []) h
 
@@ -36,14 +38,18 @@ not_percent b e h = false≢true (subst (λ (x : ℕ). is_plain x ≡ true) e h)
 hex_digit_injective : (a b : ℕ) → a < 16 → b < 16 → hex_digit a ≡ hex_digit b → a ≡ b
 hex_digit_injective a b la lb e = grind (arith, nat_tests)
 
-same_digits : (a b : ℕ) → a < 256 → b < 256 → hex_digit (a / 16) ≡ hex_digit (b / 16) → hex_digit (a % 16) ≡ hex_digit (b % 16) → a ≡ b
+same_digits :
+    (a b : ℕ) → a < 256 → b < 256 → hex_digit (a / 16) ≡ hex_digit (b / 16)
+    → hex_digit (a % 16) ≡ hex_digit (b % 16) → a ≡ b
 same_digits a b la lb high low =
     let h : a / 16 ≡ b / 16 = hex_digit_injective (a / 16) (b / 16) (omega arith) (omega arith) high in
     let l : a % 16 ≡ b % 16 = hex_digit_injective (a % 16) (b % 16) (omega arith) (omega arith) low in
     omega arith
 
 -- the spelling of a byte tells where it ends
-pub same_byte : (a b : ℕ) (s t : List ℕ) → a < 256 → b < 256 → spelled_byte a ++ s ≡ spelled_byte b ++ t → (a ≡ b) × (s ≡ t)
+pub same_byte :
+    (a b : ℕ) (s t : List ℕ) → a < 256 → b < 256 → spelled_byte a ++ s ≡ spelled_byte b ++ t
+    → (a ≡ b) × (s ≡ t)
 same_byte a b s t la lb e =
     elim (plain_or a) [
       | inl pa ↦ elim (plain_or b) [
@@ -76,7 +82,9 @@ pub record GoesOn (bytes rest n : List ℕ) : Type 0 where
   pub left : rest ≡ bytes_text more
   pub small : AllByRecursion IsByte more
 
-pub goes_on : (xs rest n : List ℕ) → AllByRecursion IsByte xs → AllByRecursion IsByte n → bytes_text xs ++ rest ≡ bytes_text n → GoesOn xs rest n
+pub goes_on :
+    (xs rest n : List ℕ) → AllByRecursion IsByte xs → AllByRecursion IsByte n
+    → bytes_text xs ++ rest ≡ bytes_text n → GoesOn xs rest n
 goes_on [] rest n hx hn e = record { more = n; whole = refl; left = e; small = hn }
 goes_on (x ∷ xs) rest [] hx hn e = absurd (not_nil x (bytes_text xs ++ rest) (sym (append_assoc (spelled_byte x) (bytes_text xs) rest) ∙ e))
 goes_on (x ∷ xs) rest (y ∷ n) hx hn e =
@@ -94,7 +102,9 @@ nothing_left : (more : List ℕ) → [] ≡ bytes_text more → more ≡ []
 nothing_left [] e = refl
 nothing_left (b ∷ more) e = absurd (not_nil b (bytes_text more) (sym e))
 
-same_bytes : (m n : List ℕ) → AllByRecursion IsByte m → AllByRecursion IsByte n → bytes_text m ≡ bytes_text n → m ≡ n
+same_bytes :
+    (m n : List ℕ) → AllByRecursion IsByte m → AllByRecursion IsByte n → bytes_text m ≡ bytes_text n
+    → m ≡ n
 same_bytes m n hm hn e =
     let f : bytes_text m ++ [] ≡ bytes_text n = append-nil (bytes_text m) ∙ e in
     let g = goes_on m [] n hm hn f in
@@ -126,7 +136,8 @@ begins b rest =
     ]
 
 -- an empty text begins with no spelling
-pub empty_begins : (text : List ℕ) (b : ℕ) (rest : List ℕ) → length text < 1 → text ≡ spelled_byte b ++ rest → ⊥
+pub empty_begins :
+    (text : List ℕ) (b : ℕ) (rest : List ℕ) → length text < 1 → text ≡ spelled_byte b ++ rest → ⊥
 empty_begins text b rest short e = let long = begins b rest in let same = ap length e in omega arith
 
 -- the spelling of a byte as the prefix of a text that begins with no plain byte
@@ -135,7 +146,9 @@ pub record Escapes (first b : ℕ) (more rest : List ℕ) : Type 0 where
   pub bare : is_plain b ≡ false
   pub digits : more ≡ hex_digit (b / 16) ∷ hex_digit (b % 16) ∷ rest
 
-pub only_escaped : (text more : List ℕ) (first b : ℕ) (rest : List ℕ) → text ≡ first ∷ more → is_plain first ≡ false → text ≡ spelled_byte b ++ rest → Escapes first b more rest
+pub only_escaped :
+    (text more : List ℕ) (first b : ℕ) (rest : List ℕ) → text ≡ first ∷ more
+    → is_plain first ≡ false → text ≡ spelled_byte b ++ rest → Escapes first b more rest
 only_escaped text more first b rest starts bare e =
     elim (plain_or b) [
       | inl p ↦ absurd (let f : text ≡ b ∷ rest = rw (spelled_plain b p) at e in let same : first ≡ b = cc in false≢true (sym (subst (λ (x : ℕ). is_plain x ≡ false) same bare) ∙ p))
@@ -146,10 +159,16 @@ only_escaped text more first b rest starts bare e =
 pub long_enough : (first b : ℕ) (more rest : List ℕ) → Escapes first b more rest → 2 ≤ length more
 long_enough first b more rest h = let size = ap length h.digits in omega arith
 
-pub plain_prefix : (text rest : List ℕ) (b : ℕ) → text ≡ b ∷ rest → is_plain b ≡ true → text ≡ spelled_byte b ++ rest
+pub plain_prefix :
+    (text rest : List ℕ) (b : ℕ) → text ≡ b ∷ rest → is_plain b ≡ true
+    → text ≡ spelled_byte b ++ rest
 plain_prefix text rest b e p = rw (spelled_plain b p) e
 
-pub escaped_prefix : (text more : List ℕ) (first b : ℕ) → text ≡ first ∷ more → first ≡ 37 → 2 ≤ length more → is_plain b ≡ false → hex_digit (b / 16) ∷ hex_digit (b % 16) ∷ [] ≡ get_or (take 2 more) 0 0 ∷ get_or (take 2 more) 1 0 ∷ []
+pub escaped_prefix :
+    (text more : List ℕ) (first b : ℕ) → text ≡ first ∷ more → first ≡ 37 → 2 ≤ length more
+    → is_plain b ≡ false
+    → hex_digit (b / 16) ∷ hex_digit (b % 16) ∷ []
+    ≡ get_or (take 2 more) 0 0 ∷ get_or (take 2 more) 1 0 ∷ []
     → text ≡ spelled_byte b ++ drop 2 more
 escaped_prefix text [] first b e percent long p same = absurd (omega arith)
 escaped_prefix text (x ∷ []) first b e percent long p same = absurd (omega arith)
@@ -158,7 +177,10 @@ escaped_prefix text (x ∷ y ∷ rest) first b e percent long p same = rw (spell
 -- ---- bytes that were read up to a rest
 
 -- what is left begins with no spelling
-pub stops : (text xs rest : List ℕ) → text ≡ bytes_text xs ++ rest → AreBytes xs → 0 < length rest → ((b : ℕ) (more : List ℕ) → b < 256 → rest ≢ spelled_byte b ++ more) → (n : List ℕ) → AreBytes n → bytes_text n ≢ text
+pub stops :
+    (text xs rest : List ℕ) → text ≡ bytes_text xs ++ rest → AreBytes xs → 0 < length rest
+    → ((b : ℕ) (more : List ℕ) → b < 256 → rest ≢ spelled_byte b ++ more) → (n : List ℕ)
+    → AreBytes n → bytes_text n ≢ text
 stops text xs rest e small long none n h same =
     let g = goes_on xs rest n (name_bytes xs small) (name_bytes n h) (sym e ∙ sym same) in
     next g.more g.left g.small
@@ -168,17 +190,21 @@ stops text xs rest e small long none n h same =
     next (b ∷ more) left bytes = none b (bytes_text more) bytes.0 left
 
 -- nothing is left
-pub read_whole : (text xs rest : List ℕ) → text ≡ bytes_text xs ++ rest → length rest ≡ 0 → bytes_text xs ≡ text
+pub read_whole :
+    (text xs rest : List ℕ) → text ≡ bytes_text xs ++ rest → length rest ≡ 0 → bytes_text xs ≡ text
 read_whole text xs [] e none = sym (e ∙ append-nil (bytes_text xs))
 read_whole text xs (b ∷ rest) e none = absurd (omega arith)
 
 -- one byte more
-pub read_on : (text xs rest after : List ℕ) (b : ℕ) → text ≡ bytes_text xs ++ rest → rest ≡ spelled_byte b ++ after → text ≡ bytes_text (xs ++ b ∷ []) ++ after
+pub read_on :
+    (text xs rest after : List ℕ) (b : ℕ) → text ≡ bytes_text xs ++ rest
+    → rest ≡ spelled_byte b ++ after → text ≡ bytes_text (xs ++ b ∷ []) ++ after
 read_on text xs rest after b e f =
     let spelled_on : bytes_text (xs ++ b ∷ []) ≡ bytes_text xs ++ spelled_byte b = flat_map-append spelled_byte xs (b ∷ []) ∙ ap (λ t. bytes_text xs ++ t) (append-nil (spelled_byte b)) in
     e ∙ (ap (λ r. bytes_text xs ++ r) f ∙ (sym (append_assoc (bytes_text xs) (spelled_byte b) after) ∙ ap (λ t. t ++ after) (sym spelled_on)))
 
-pub shorter : (rest after : List ℕ) (b : ℕ) → rest ≡ spelled_byte b ++ after → length after < length rest
+pub shorter :
+    (rest after : List ℕ) (b : ℕ) → rest ≡ spelled_byte b ++ after → length after < length rest
 shorter rest after b e =
     elim (plain_or b) [
       | inl p ↦ (let f : rest ≡ b ∷ after = rw (spelled_plain b p) at e in let size = ap length f in omega arith)
@@ -196,7 +222,9 @@ pub no_name : (word : List ℕ) → length word ≡ 0 → (n : List ℕ) → spe
 no_name word none n same = let long = name_begins n in let size = ap length same in omega arith
 
 -- a word that is not `%-` spells a name as its bytes
-pub name_read : (word : List ℕ) (r : Result (List ℕ) LineFault) → word ≢ codes "%-" → 0 < length word → ReadsUnless bytes_text AreBytes word r → ReadsUnless spelled AreBytes word r
+pub name_read :
+    (word : List ℕ) (r : Result (List ℕ) LineFault) → word ≢ codes "%-" → 0 < length word
+    → ReadsUnless bytes_text AreBytes word r → ReadsUnless spelled AreBytes word r
 name_read word (Ok []) other some h = absurd (let size = ap length h.1 in omega arith)
 name_read word (Ok (b ∷ n)) other some h = h
 name_read word (Err Malformed) other some h = none

@@ -15,11 +15,15 @@ use Rattle.std.proofs.lemmas.Str.{IsUtf8-from_ascii}
 use Rattle.dht_sched.specs.Reading.{Reads}
 use Rattle.dht_sched.proofs.WordLemmas.{IsWord}
 
-pub at_none : {A E : Type 0} (P : A → Type 0) (Q : E → Type 0) (r : Result A E) → MatchResult r P Q → None ≡ result_ok r → (e : E) × Q e
+pub at_none :
+    {A E : Type 0} (P : A → Type 0) (Q : E → Type 0) (r : Result A E) → MatchResult r P Q
+    → None ≡ result_ok r → (e : E) × Q e
 at_none P Q (Ok x) h e = absurd cc
 at_none P Q (Err d) h e = (d, h)
 
-pub at_some : {A E : Type 0} (P : A → Type 0) (Q : E → Type 0) (r : Result A E) (x : A) → MatchResult r P Q → Some x ≡ result_ok r → P x
+pub at_some :
+    {A E : Type 0} (P : A → Type 0) (Q : E → Type 0) (r : Result A E) (x : A) → MatchResult r P Q
+    → Some x ≡ result_ok r → P x
 at_some P Q (Ok y) x h e = let same : y ≡ x = cc in let R = P in rw (← same) h
 at_some P Q (Err d) x h e = absurd cc
 
@@ -27,25 +31,35 @@ pub IsUtf8-decimal : (n : ℕ) → n < 2 ^ 64 → IsUtf8 (decimal n)
 IsUtf8-decimal n lt = IsUtf8-from_ascii (decimal n) (IsAscii-decimal n lt)
 
 -- what parses as no number is the decimal of none
-pub not_parsed : {E : Type 0} (word : List ℕ) (r : Result ℕ E) → ParsesUnsigned 64 10 word r → None ≡ result_ok r → (n : ℕ) → n < 2 ^ 64 → decimal n ≡ word → ⊥
+pub not_parsed :
+    {E : Type 0} (word : List ℕ) (r : Result ℕ E) → ParsesUnsigned 64 10 word r → None ≡ result_ok r
+    → (n : ℕ) → n < 2 ^ 64 → decimal n ≡ word → ⊥
 not_parsed word r parses none n lt same =
     let ok = parse-decimal 64 n word r lt lt (sym same) parses in
     cc (ok, none)
 
 -- what parses as a number is the decimal of no other
-pub only_parsed : {E : Type 0} (word : List ℕ) (r : Result ℕ E) (number : ℕ) → ParsesUnsigned 64 10 word r → Some number ≡ result_ok r → (n : ℕ) → n < 2 ^ 64 → decimal n ≡ word → n ≡ number
+pub only_parsed :
+    {E : Type 0} (word : List ℕ) (r : Result ℕ E) (number : ℕ) → ParsesUnsigned 64 10 word r
+    → Some number ≡ result_ok r → (n : ℕ) → n < 2 ^ 64 → decimal n ≡ word → n ≡ number
 only_parsed word r number parses some n lt same =
     let ok = parse-decimal 64 n word r lt lt (sym same) parses in
     cc (ok, some)
 
-pub number_read : (word printed : List ℕ) (number : ℕ) (b : Bool) → b ≡ bytes_eq printed word → printed ≡ decimal number → number < 2 ^ 64 → ((n : ℕ) → n < 2 ^ 64 → decimal n ≡ word → n ≡ number) → Reads decimal (λ n. n < 2 ^ 64) word (then_some b number)
+pub number_read :
+    (word printed : List ℕ) (number : ℕ) (b : Bool) → b ≡ bytes_eq printed word
+    → printed ≡ decimal number → number < 2 ^ 64
+    → ((n : ℕ) → n < 2 ^ 64 → decimal n ≡ word → n ≡ number)
+    → Reads decimal (λ n. n < 2 ^ 64) word (then_some b number)
 number_read word printed number true e p lt only = (lt, sym p ∙ (bytes_eq-Decides printed word).0 (sym e))
 number_read word printed number false e p lt only = λ n small same.
     let again : printed ≡ word = p ∙ (sym (ap decimal (only n small same)) ∙ same) in
     let yes = (bytes_eq-Decides printed word).1 again in
     cc (e, yes)
 
-pub too_heavy : (word : List ℕ) (n : ℕ) → n < 2 ^ 64 → decimal n ≡ word → 1000 < n → (w : ℕ) → w ≤ 1000 → decimal w ≢ word
+pub too_heavy :
+    (word : List ℕ) (n : ℕ) → n < 2 ^ 64 → decimal n ≡ word → 1000 < n → (w : ℕ) → w ≤ 1000
+    → decimal w ≢ word
 too_heavy word n small same heavy w light again =
     let w_is : w ≡ n = decimal_injective w n (omega arith) small (again ∙ sym same) in
     omega arith

@@ -12,7 +12,9 @@ use Rattle.std.proofs.lemmas.List.Splits.{slice_split_first, slice_split_none, s
 use Rattle.dht_sched.specs.Spelling.{spaced, words_of}
 
 -- the first word ends at the first space
-pub words_of_space : (text : List ℕ) (at : ℕ) → position (λ b. eqb b 32) text ≡ Some at → words_of text ≡ take at text ∷ words_of (take (length text - (at + 1)) (drop (at + 1) text))
+pub words_of_space :
+    (text : List ℕ) (at : ℕ) → position (λ b. eqb b 32) text ≡ Some at
+    → words_of text ≡ take at text ∷ words_of (take (length text - (at + 1)) (drop (at + 1) text))
 unfolding words_of
 words_of_space text at e =
     let c = cond_some (ltb (position_or_len (λ b. eqb b 32) text) (length text)) (position_or_len (λ b. eqb b 32) text) at e in
@@ -21,7 +23,8 @@ words_of_space text at e =
     rw (whole, ← c.1) (slice_split_first (λ b. eqb b 32) text 0 there)
 
 -- without a space the text is one word
-pub words_of_none : (text : List ℕ) → position (λ b. eqb b 32) text ≡ None → words_of text ≡ text ∷ []
+pub words_of_none :
+    (text : List ℕ) → position (λ b. eqb b 32) text ≡ None → words_of text ≡ text ∷ []
 unfolding words_of
 words_of_none text e =
     elim (cases_lt (position_or_len (λ b. eqb b 32) text) (length text)) [
@@ -48,7 +51,9 @@ abbrev pub IsWord : List ℕ → Type 0
 IsWord word = is_word word ≡ true
 
 -- a line of words has these words
-pub words_of-spaced : (word : List ℕ) (words : List (List ℕ)) → AllByRecursion IsWord (word ∷ words) → words_of (spaced (word ∷ words)) ≡ word ∷ words
+pub words_of-spaced :
+    (word : List ℕ) (words : List (List ℕ)) → AllByRecursion IsWord (word ∷ words)
+    → words_of (spaced (word ∷ words)) ≡ word ∷ words
 unfolding words_of
 words_of-spaced word [] h = slice_split_none (λ b. eqb b 32) word (no_space word h.0)
 words_of-spaced word (next ∷ words) h =
@@ -58,13 +63,16 @@ words_of-spaced word (next ∷ words) h =
 from_space : (word : List ℕ) → IsWord word → list_all (λ b. leb 32 b) word ≡ true
 from_space word h = list_all-from_AllPass (λ b. leb 32 b) word (All-weaker (λ b. leb 33 b ≡ true) (λ b. leb 32 b ≡ true) (λ b above. let le = leb-true 33 b above in le-leb 32 b (omega arith)) word (AllPass-from_list_all (λ b. leb 33 b) word h))
 
-line_from_space : (words : List (List ℕ)) → AllByRecursion IsWord words → list_all (λ b. leb 32 b) (spaced words) ≡ true
+line_from_space :
+    (words : List (List ℕ)) → AllByRecursion IsWord words
+    → list_all (λ b. leb 32 b) (spaced words) ≡ true
 line_from_space [] h = refl
 line_from_space (word ∷ []) h = from_space word h.0
 line_from_space (word ∷ next ∷ words) h =
     rw (list_all-append (λ b. leb 32 b) word (32 ∷ spaced (next ∷ words)), from_space word h.0) (line_from_space (next ∷ words) h.1)
 
-pub no_newline : (words : List (List ℕ)) → AllByRecursion IsWord words → Contains (spaced words) 10 → ⊥
+pub no_newline :
+    (words : List (List ℕ)) → AllByRecursion IsWord words → Contains (spaced words) 10 → ⊥
 no_newline words h there = false≢true (All-contains (λ b. leb 32 b ≡ true) (spaced words) 10 (AllPass-from_list_all (λ b. leb 32 b) (spaced words) (line_from_space words h)) there)
 
 -- the room that words take, each with a space

@@ -15,7 +15,9 @@ ReadsUnless {X} text Right seen (Err Malformed) = (x : X) → Right x → text x
 ReadsUnless text Right seen (Err OutOfMemory) = Unit {0}
 
 -- the first of these was read, and those behind it are left
-abbrev pub ReadsFirst : {X T : Type 0} → (X → T) → (X → Type 0) → List T → List T → Result X LineFault → Type 0
+abbrev pub ReadsFirst :
+    {X T : Type 0} → (X → T) → (X → Type 0) → List T → List T → Result X LineFault → Type 0
 ReadsFirst text Right seen left (Ok x) = Right x × (seen ≡ text x ∷ left)
-ReadsFirst {X} {T} text Right seen left (Err Malformed) = (x : X) (rest : List T) → Right x → seen ≢ text x ∷ rest
+ReadsFirst {X} {T} text Right seen left (Err Malformed) =
+    (x : X) (rest : List T) → Right x → seen ≢ text x ∷ rest
 ReadsFirst text Right seen left (Err OutOfMemory) = Unit {0}

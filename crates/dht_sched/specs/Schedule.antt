@@ -33,7 +33,8 @@ schedule_words (Die c) = codes "die" ∷ decimal c ∷ []
 
 -- the call of this verb, directory and name, and where it is none there is no such call
 abbrev pub IsCallOf : List ℕ → Directory → Option (List ℕ) → Option (Call Directory) → Type 0
-IsCallOf verb directory name None = (call : Call Directory) → name_of call ≡ name → verb_word call ≢ verb
+IsCallOf verb directory name None =
+    (call : Call Directory) → name_of call ≡ name → verb_word call ≢ verb
 IsCallOf verb directory name (Some call) =
     (verb_word call ≡ verb) × (directory_of call ≡ directory) × (name_of call ≡ name)
 

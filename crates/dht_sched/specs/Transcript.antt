@@ -57,10 +57,13 @@ abbrev pub line_words : Line → List (List ℕ)
 line_words (Volume w) = codes "volume" ∷ bricks_words w
 line_words (Remounted w) = codes "remount" ∷ bricks_words w
 line_words (Called k c call) = codes "call" ∷ decimal k.0 ∷ decimal c.0 ∷ called_words call
-line_words (Stepped k c b q r) = codes "step" ∷ decimal k.0 ∷ decimal c.0 ∷ decimal b.0 ∷ request_word q ∷ reply_word r ∷ []
-line_words (Waited k c b holder) = codes "wait" ∷ decimal k.0 ∷ decimal c.0 ∷ decimal b.0 ∷ decimal holder.0 ∷ []
+line_words (Stepped k c b q r) =
+    codes "step" ∷ decimal k.0 ∷ decimal c.0 ∷ decimal b.0 ∷ request_word q ∷ reply_word r ∷ []
+line_words (Waited k c b holder) =
+    codes "wait" ∷ decimal k.0 ∷ decimal c.0 ∷ decimal b.0 ∷ decimal holder.0 ∷ []
 line_words (Tree k step) = codes "tree" ∷ decimal k.0 ∷ tree_words step
-line_words (Answered k c point a) = codes "answer" ∷ decimal k.0 ∷ decimal c.0 ∷ (point_words point ++ answer_words a)
+line_words (Answered k c point a) =
+    codes "answer" ∷ decimal k.0 ∷ decimal c.0 ∷ (point_words point ++ answer_words a)
 line_words (WentDown b) = codes "down" ∷ decimal b.0 ∷ []
 line_words (CameUp b) = codes "up" ∷ decimal b.0 ∷ []
 line_words (Died c) = codes "die" ∷ decimal c.0 ∷ []

@@ -7,8 +7,8 @@ use crate::fields::{Field, print_fields};
 use dht_types::lines::DumpLine;
 use std::alloc::AllocError;
 
-/// Appends a line of what the bricks contain to `out`, with its newline. Where memory runs out, `out`
-/// stays as it was.
+/// Appends a line of what the bricks contain to `out`, with its newline. Where memory runs out,
+/// `out` stays as it was.
 #[tactic(auto, unfolding(crate::specs::Transcript::dump_text))]
 pub fn print_dump_line(line: &DumpLine, out: &mut Vec<u8>) -> Result<(), AllocError>
     ensures ok { OnOk result (out.new.items ≡ out.old.items ++ dump_text line.now) }

@@ -36,8 +36,8 @@ pub enum Field<'a> {
     CallName(Option<&'a [u8]>),
     /// The text of a gfid.
     Gfid(Gfid),
-    /// The attribute of a directory: in hexadecimal digits, `x` where it is empty, and `-` where there
-    /// is none.
+    /// The attribute of a directory: in hexadecimal digits, `x` where it is empty, and `-` where
+    /// there is none.
     Value(&'a Option<Bytes>),
     /// The main part of a slot, and `-` where there is none.
     Main(&'a Option<Main>),

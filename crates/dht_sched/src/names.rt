@@ -1,4 +1,5 @@
-//! The spelling of names: a byte that prints stands for itself, and any other is `%` and two digits.
+//! The spelling of names: a byte that prints stands for itself, and any other is `%` and two
+//! digits.
 
 ghost use Rattle.std.specs.Prelude.{◌≡◌, ◌≢◌, ◌<◌, ℕ, false, List, [], ◌∷◌, ◌++◌, ◌/◌, ◌%◌, IfSome, IfNone};
 ghost use Rattle.std.specs.List.{flat_map};
@@ -55,7 +56,8 @@ fn digit_value(digit: u8) -> Option<u8>
     }
 }
 
-/// The byte that these digits behind a `%` spell. A byte that stands for itself has no such spelling.
+/// The byte that these digits behind a `%` spell. A byte that stands for itself has no such
+/// spelling.
 fn escaped(high: u8, low: u8) -> Option<u8>
     ensures { Reads (λ b. hex_digit (b / 16) ∷ hex_digit (b % 16) ∷ [])
         (λ b. (b < 256) × (is_plain b ≡ false)) (high ∷ low ∷ []) result }

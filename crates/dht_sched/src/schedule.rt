@@ -151,8 +151,8 @@ fn read_words(alloc: Global, mut words: Words<'_>) -> Result<Event, LineFault>
     }
 }
 
-/// The event of a line of a schedule, which is given without its newline. A line that is too long is
-/// no event's. `OutOfMemory` comes only of a line that begins as a volume's, a remount's or a
+/// The event of a line of a schedule, which is given without its newline. A line that is too long
+/// is no event's. `OutOfMemory` comes only of a line that begins as a volume's, a remount's or a
 /// call's.
 pub fn read_line(alloc: Global, line: &[u8]) -> Result<Event, LineFault>
     ensures scheduled { IfOk result IsScheduled }

@@ -174,8 +174,8 @@ fn print_bricks(out: &mut Vec<u8>, first: &str, weights: &Weights) -> Result<(),
     print_fields(out, first, &[bricks, Field::Numbers(weights)])
 }
 
-/// Appends the line of an event to `out`, with its newline. Where memory runs out, `out` stays as it
-/// was.
+/// Appends the line of an event to `out`, with its newline. Where memory runs out, `out` stays as
+/// it was.
 #[tactic(auto, unfolding(crate::specs::Transcript::line_text))]
 pub fn print_line(line: &Line, out: &mut Vec<u8>) -> Result<(), AllocError>
     ensures ok { OnOk result (out.new.items ≡ out.old.items ++ line_text line.now) }

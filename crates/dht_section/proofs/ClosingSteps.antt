@@ -17,17 +17,22 @@ use Rattle.dht_section.specs.declared.machine.Finish.{Finish}
 use Rattle.dht_section.specs.declared.machine.Turn.{Turn}
 use Rattle.dht_section.specs.declared.section.Held.{Held}
 
-answer_moved : (f : Finish) (s t : Scene) (a : Ask) (r : Reply) → IsQuiet a.request → MayAnswer f s → Guarantee s a r t → MayAnswer f t
+answer_moved :
+    (f : Finish) (s t : Scene) (a : Ask) (r : Reply) → IsQuiet a.request → MayAnswer f s
+    → Guarantee s a r t → MayAnswer f t
 answer_moved f s t a r q h m = may_answer_moved f s t a r (deeds_quiet s t a r q m) m h
 
 abbrev Went : Closing → Reply → Scene → Turn Closing Finish → Type 0
 Went c r t turn = MatchTurn turn (λ n. GoesOn (closing_stage c) (closing_stage n) r t) (λ d. EndsIn (closing_stage c) (answered d) t)
 
-either : (c : Closing) (r : Reply) (t : Scene) (b : Bool) (x y : Turn Closing Finish) → (b ≡ true → Went c r t x) → (b ≡ false → Went c r t y) → Went c r t (if b then x else y)
+either :
+    (c : Closing) (r : Reply) (t : Scene) (b : Bool) (x y : Turn Closing Finish)
+    → (b ≡ true → Went c r t x) → (b ≡ false → Went c r t y) → Went c r t (if b then x else y)
 either c r t true x y h k = h refl
 either c r t false x y h k = k refl
 
-pub closing_moves : (c : Closing) (r : Reply) (at : ℕ) → Moves closing_stage answered c r at (closing_after c)
+pub closing_moves :
+    (c : Closing) (r : Reply) (at : ℕ) → Moves closing_stage answered c r at (closing_after c)
 closing_moves c r at s t v = either c r t (nat_lt 0 c.place) _ _
     (λ e. unlocking_next c.scope c.place (MayAnswer c.finish) (answer_moved c.finish) (grind (arith, nat_tests, e)) r at s t v)
     (λ e. record {

@@ -102,7 +102,9 @@ IsPlainShape (Plain b f) = Unit {0}
 IsPlainShape h = ⊥
 
 -- where all slots of a name are plain, it is in one of these
-pub plain_shape : (count : ℕ) (h : NameShape) → NameFits count h → ((b : ℕ) → b < count → IsPlain (core_at h b)) → IsPlainShape h
+pub plain_shape :
+    (count : ℕ) (h : NameShape) → NameFits count h → ((b : ℕ) → b < count → IsPlain (core_at h b))
+    → IsPlainShape h
 plain_shape count Bare fits p = tt
 plain_shape count (Folder g on) fits p = tt
 plain_shape count (Plain b f) fits p = tt
@@ -143,7 +145,9 @@ pub data StandsPlainly (d : Disk) (x : Entry) (told : Option Node) : Type 0 wher
 abbrev main_alone : Option Main → Slot
 main_alone m = record { main = m; standby = None }
 
-plainly_by : (d : Disk) (x : Entry) (told : Option Node) (h : NameShape) → IsPlainShape h → StandsAs d.count (cores_of d x) told h → StandsPlainly d x told
+plainly_by :
+    (d : Disk) (x : Entry) (told : Option Node) (h : NameShape) → IsPlainShape h
+    → StandsAs d.count (cores_of d x) told h → StandsPlainly d x told
 plainly_by d x told Bare p k = Nowhere (record { node = k.node; bare = k.has })
 plainly_by d x told (Folder g on) p k = AsFolder (record { directory = g; on = on; node = k.node; stands = k })
 plainly_by d x told (Plain b f) p k = Once (record {
@@ -160,12 +164,18 @@ plainly_by d x told (Standing y g) p k = absurd p
 plainly_by d x told (Copied b f t) p k = absurd p
 plainly_by d x told (Committed t f) p k = absurd p
 
-pub shape_plain : (d : Disk) (x : Entry) (told : Option Node) (h : NameShape) → StandsAs d.count (cores_of d x) told h → ((b : ℕ) → b < d.count → IsPlain (slot_at d b x)) → IsPlainShape h
+pub shape_plain :
+    (d : Disk) (x : Entry) (told : Option Node) (h : NameShape)
+    → StandsAs d.count (cores_of d x) told h → ((b : ℕ) → b < d.count → IsPlain (slot_at d b x))
+    → IsPlainShape h
 shape_plain d x told h k p = plain_shape d.count h k.fits (λ b l. subst IsPlain (k.has b l) (plain_core (slot_at d b x) (p b l)))
 
-pub stands_plainly : (d : Disk) (x : Entry) (told : Option Node) → NameInvariant d.count (cores_of d x) told → ((b : ℕ) → b < d.count → IsPlain (slot_at d b x)) → StandsPlainly d x told
+pub stands_plainly :
+    (d : Disk) (x : Entry) (told : Option Node) → NameInvariant d.count (cores_of d x) told
+    → ((b : ℕ) → b < d.count → IsPlain (slot_at d b x)) → StandsPlainly d x told
 stands_plainly d x told n p = plainly_by d x told n.0 (shape_plain d x told n.0 n.1 p) n.1
 
 -- so does each name of a sound scene
-pub name_stands : (s : Scene) (x : Entry) → Sound s → StandsPlainly s.disk x (s.history.tree.names x)
+pub name_stands :
+    (s : Scene) (x : Entry) → Sound s → StandsPlainly s.disk x (s.history.tree.names x)
 name_stands s x sound = stands_plainly s.disk x (s.history.tree.names x) (sound.kept.things.names x) (sound.early.plain x)

@@ -27,7 +27,9 @@ use Rattle.dht_section.specs.Views.{FileView, links_to, view_of}
 -- ---- the record of a file on its brick
 
 -- the brick that has the file has a record of its bytes
-pub main_record : (count : ℕ) (records : ℕ → Option Record) (h : FileShape) (b : ℕ) → RecordsAs count records h → main_brick h ≡ Some b → b < count → is_some (body (records b)) ≡ true
+pub main_record :
+    (count : ℕ) (records : ℕ → Option Record) (h : FileShape) (b : ℕ) → RecordsAs count records h
+    → main_brick h ≡ Some b → b < count → is_some (body (records b)) ≡ true
 main_record count records Gone b r e l = absurd (let z : None ≡ Some b = e in cc)
 main_record count records (Live i hop bytes) b r e l = ap is_some (r.has b l ∙ (ap (λ (j : ℕ). here (Some (stored.Live hop bytes)) j b) (let z : i ≡ b = cc in z) ∙ here_at (Some (stored.Live hop bytes)) b))
 main_record count records (Moving i hop t bytes) b r e l = ap is_some (r.has b l ∙ (ap (λ (j : ℕ). here (Some (stored.Moving hop t bytes)) j b) (let z : i ≡ b = cc in z) ∙ here_at (Some (stored.Moving hop t bytes)) b))
@@ -36,7 +38,9 @@ main_record count records (Copying i hop t bytes c) b r e l = ap is_some (r.has 
 main_record count records (Moved t c) b r e l = absurd (let z : None ≡ Some b = e in cc)
 
 -- a record of a file that was never moved is a live one
-pub live_by : (r : Option Record) → is_some (body r) ≡ true → ((x : Record) → r ≡ Some x → IsUnmoved x) → is_live r ≡ true
+pub live_by :
+    (r : Option Record) → is_some (body r) ≡ true → ((x : Record) → r ≡ Some x → IsUnmoved x)
+    → is_live r ≡ true
 live_by None h u = absurd (let z : false ≡ true = h in cc)
 live_by (Some x) h u = ap (λ (y : Record). is_live (Some y)) (u x refl).1
 
@@ -65,14 +69,17 @@ live_here r i b e = elim (nat_cases b i) [
   | inr ne ↦ absurd (let z : true ≡ false = sym e ∙ ap is_live (here_off (Some r) i b ne) in cc)
 ]
 
-either_dead : (x y : Option Record) → is_live x ≡ false → is_live y ≡ false → is_live (either x y) ≡ false
+either_dead :
+    (x y : Option Record) → is_live x ≡ false → is_live y ≡ false → is_live (either x y) ≡ false
 either_dead None y e k = k
 either_dead (Some x) y e k = e
 
 not_live : {A : Type 0} (x : Option Record) → is_live x ≡ true → is_live x ≡ false → A
 not_live x e k = absurd (let z : true ≡ false = sym e ∙ k in cc)
 
-lives_by : (count : ℕ) (v : FileView) (places : ℕ → ℕ → ℕ) (h : FileShape) (b : ℕ) → is_live (record_at h b) ≡ true → LivesAt count v places h b
+lives_by :
+    (count : ℕ) (v : FileView) (places : ℕ → ℕ → ℕ) (h : FileShape) (b : ℕ)
+    → is_live (record_at h b) ≡ true → LivesAt count v places h b
 lives_by count v places Gone b e = not_live (record_at Gone b) e refl
 lives_by count v places (Live i hop bytes) b e = record { brick = ap Some (live_here (stored.Live hop bytes) i b e); copies = λ n. n }
 lives_by count v places (Moving i hop t bytes) b e = not_live (record_at (Moving i hop t bytes) b) e (never_live (stored.Moving hop t bytes) i b refl)
@@ -85,7 +92,9 @@ none_or : (a b : Bool) → a ≡ false → b ≡ false → (a || b) ≡ false
 none_or a b e k = ap (λ (x : Bool). x || b) e ∙ k
 
 -- a test that no value of a map passes
-none_passes : {K X : Type 0} (cmp : K → K → Ordering) (p : X → Bool) (q : K) (es : List (K × X)) (x : X) → count_by p (map (λ (e : K × X). e.1) es) ≡ 0 → find cmp q es ≡ Some x → p x ≡ false
+none_passes :
+    {K X : Type 0} (cmp : K → K → Ordering) (p : X → Bool) (q : K) (es : List (K × X)) (x : X)
+    → count_by p (map (λ (e : K × X). e.1) es) ≡ 0 → find cmp q es ≡ Some x → p x ≡ false
 none_passes cmp p q [] x h e = absurd (let z : None ≡ Some x = e in cc)
 none_passes {K} {X} cmp p q (y ∷ es) x h e = by (eq_by_cmp cmp q y.0) e (of (p y.1) (sym (sum_by-cons (λ (v : X). cond (p v) 1 0) y.1 (map (λ (e : K × X). e.1) es)) ∙ h)) (none_passes cmp p q es x)
   where
@@ -98,7 +107,9 @@ none_passes {K} {X} cmp p q (y ∷ es) x h e = by (eq_by_cmp cmp q y.0) e (of (p
     by false k w rest = rest w.1 k
 
 -- where a brick counts no link of a file, no name there is the file's or readied for it
-pub no_links : (slots : Slots) (f : Gfid) (e : Entry) → links slots f ≡ 0 → links_to f (slot_in slots e) ≡ false
+pub no_links :
+    (slots : Slots) (f : Gfid) (e : Entry) → links slots f ≡ 0
+    → links_to f (slot_in slots e) ≡ false
 unfolding links
 no_links slots f e h = by (get slots e) refl
   where
@@ -113,7 +124,10 @@ no_links slots f e h = by (get slots e) refl
     by (Some p) k = none_or (is_file f p.main) (is_standlink f p.standby) (named p k) (readied p k)
 
 -- a live file of which its brick counts no link has no name on any brick
-pub nameless_by : (s : Scene) (f : Gfid) (b : ℕ) (r : Record) → Sound s → b < s.disk.count → file_at s.disk b f ≡ Some r → is_live (Some r) ≡ true → links (s.disk.brick b).store.slots f ≡ 0 → IsNameless s.disk s.history.tree f
+pub nameless_by :
+    (s : Scene) (f : Gfid) (b : ℕ) (r : Record) → Sound s → b < s.disk.count
+    → file_at s.disk b f ≡ Some r → is_live (Some r) ≡ true
+    → links (s.disk.brick b).store.slots f ≡ 0 → IsNameless s.disk s.history.tree f
 nameless_by s f b r sound l e live none = record {
   used = ByRecord b r l e;
   links = λ i x m. elim (nat_cases i b) [

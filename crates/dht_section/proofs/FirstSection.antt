@@ -22,10 +22,15 @@ use Rattle.dht_section.specs.declared.section.Prepared.{Prepared}
 abbrev pub of_one : Gfid → Mode → List ℕ → Wanted
 of_one g mode n = record { dirs = (g, mode) ∷ []; names = (g, n) ∷ [] }
 
-scope_is : (bricks : ℕ) (g : Gfid) (mode : Mode) (n : List ℕ) (w : Scoped) → IsOfOne bricks g mode n w → w ≡ scope_of_name bricks g mode n
+scope_is :
+    (bricks : ℕ) (g : Gfid) (mode : Mode) (n : List ℕ) (w : Scoped) → IsOfOne bricks g mode n w
+    → w ≡ scope_of_name bricks g mode n
 scope_is bricks g mode n w h = λ i. record { bricks = h.count i; dirs = h.modes i; keys = h.locks i; names = h.looks i }
 
-prepared_is : (bricks : ℕ) (g : Gfid) (mode : Mode) (n : List ℕ) (p : Prepared) → IsScope bricks (of_one g mode n) p.scope → p.looks ≡ replicate (length p.scope.names) not_looked → p ≡ prepared_for bricks g mode n
+prepared_is :
+    (bricks : ℕ) (g : Gfid) (mode : Mode) (n : List ℕ) (p : Prepared)
+    → IsScope bricks (of_one g mode n) p.scope
+    → p.looks ≡ replicate (length p.scope.names) not_looked → p ≡ prepared_for bricks g mode n
 prepared_is bricks g mode n p h q =
     let one = one_name bricks g mode n p.scope h in
     let s = scope_is bricks g mode n p.scope one in
@@ -40,7 +45,8 @@ room_is n looks e = ap length e ∙ length-replicate {A = Looked} n not_looked
 
 -- ---- what it knows, where the call has done no step
 
-pub one_ordered : (bricks : ℕ) (g : Gfid) (mode : Mode) (n : List ℕ) → IsOrdered (scope_of_name bricks g mode n)
+pub one_ordered :
+    (bricks : ℕ) (g : Gfid) (mode : Mode) (n : List ℕ) → IsOrdered (scope_of_name bricks g mode n)
 one_ordered bricks g mode n = record { some = omega arith; kinds = kinds; above = above; named = named; housed = housed }
   where
     w : Scoped
@@ -65,14 +71,20 @@ one_ordered bricks g mode n = record { some = omega arith; kinds = kinds; above 
     housed zero l = (0, omega arith, refl)
     housed (suc i) l = absurd (omega arith)
 
-pub one_fresh : (bricks : ℕ) (g : Gfid) (mode : Mode) (n : List ℕ) (s : Scene) → length s.history.weights ≡ bricks → home g < bricks → s.mine.deeds ≡ None → IsFresh (scope_of_name bricks g mode n) s
+pub one_fresh :
+    (bricks : ℕ) (g : Gfid) (mode : Mode) (n : List ℕ) (s : Scene)
+    → length s.history.weights ≡ bricks → home g < bricks → s.mine.deeds ≡ None
+    → IsFresh (scope_of_name bricks g mode n) s
 one_fresh bricks g mode n s count there deeds = record { scope = record { bricks = count; homes = homes }; deeds = deeds }
   where
     homes : (i : ℕ) → i < length (scope_of_name bricks g mode n).names → home (name_at (scope_of_name bricks g mode n) i).0 < bricks
     homes zero l = there
     homes (suc i) l = absurd (omega arith)
 
-pub one_knows : (bricks : ℕ) (g : Gfid) (mode : Mode) (n : List ℕ) (s : Scene) → IsFresh (scope_of_name bricks g mode n) s → (section_stage (first_section bricks g mode n)).knows s
+pub one_knows :
+    (bricks : ℕ) (g : Gfid) (mode : Mode) (n : List ℕ) (s : Scene)
+    → IsFresh (scope_of_name bricks g mode n) s
+    → (section_stage (first_section bricks g mode n)).knows s
 one_knows bricks g mode n s h = record { order = one_ordered bricks g mode n; fresh = h; within = omega arith; room = refl; holds = λ j l. absurd (omega arith) }
 
 -- ---- its first request
@@ -89,7 +101,9 @@ one_left : (bricks : ℕ) → looks_left bricks 1 ≡ bricks
 unfolding looks_left
 one_left bricks = omega arith
 
-pub starts : (bricks : ℕ) (g : Gfid) (mode : Mode) (n : List ℕ) → StartsWith bricks g mode (section_stage (first_section bricks g mode n))
+pub starts :
+    (bricks : ℕ) (g : Gfid) (mode : Mode) (n : List ℕ)
+    → StartsWith bricks g mode (section_stage (first_section bricks g mode n))
 starts bricks g mode n = record {
   brick = refl;
   request = ap (λ (m : Mode). Lock (Dir g) m) (mode_one g mode);
@@ -99,9 +113,17 @@ starts bricks g mode n = record {
 
 -- ---- what `of_name` prepares
 
-want_is : (g : Gfid) (mode : Mode) (n : List ℕ) (want : Wanted) → want.dirs ≡ (g, mode) ∷ [] → want.names ≡ (g, n) ∷ [] → want ≡ of_one g mode n
+want_is :
+    (g : Gfid) (mode : Mode) (n : List ℕ) (want : Wanted) → want.dirs ≡ (g, mode) ∷ []
+    → want.names ≡ (g, n) ∷ [] → want ≡ of_one g mode n
 want_is g mode n want e k = λ i. record { dirs = e i; names = k i }
 
-pub prepared_ok : (E : Type 0) (r : Result Prepared E) (bricks : ℕ) (g : Gfid) (mode : Mode) (n : List ℕ) (want : Wanted) → want.dirs ≡ (g, mode) ∷ [] → want.names ≡ (g, n) ∷ [] → IfOk r (λ p. IsScope bricks want p.scope) → IfOk r (λ p. p.looks ≡ replicate (length p.scope.names) not_looked) → IfOk r (λ p. p ≡ prepared_for bricks g mode n)
+pub prepared_ok :
+    (E : Type 0) (r : Result Prepared E) (bricks : ℕ) (g : Gfid) (mode : Mode) (n : List ℕ)
+    (want : Wanted)
+    → want.dirs ≡ (g, mode) ∷ [] → want.names ≡ (g, n) ∷ []
+    → IfOk r (λ p. IsScope bricks want p.scope)
+    → IfOk r (λ p. p.looks ≡ replicate (length p.scope.names) not_looked)
+    → IfOk r (λ p. p ≡ prepared_for bricks g mode n)
 prepared_ok E (Ok p) bricks g mode n want e k h q = prepared_is bricks g mode n p (subst (λ (w : Wanted). IsScope bricks w p.scope) (want_is g mode n want e k) h) q
 prepared_ok E (Err x) bricks g mode n want e k h q = tt

@@ -23,18 +23,26 @@ use Rattle.dht_section.specs.declared.section.Held.{Held}
 location_bricks : (l : Location) (h : Held) (s : Scene) → IsHeldAt l h s → h.scope.bricks ≡ l.bricks
 location_bricks l h s k = ap (λ (w : Scoped). w.bricks) k.scope
 
-pub count_is : (l : Location) (h : Held) (s : Scene) → Sound s → IsHeldAt l h s → s.disk.count ≡ l.bricks
+pub count_is :
+    (l : Location) (h : Held) (s : Scene) → Sound s → IsHeldAt l h s → s.disk.count ≡ l.bricks
 count_is l h s sound k = bricks_are h.scope s sound k.held.fresh.scope ∙ location_bricks l h s k
 
 -- a brick has a linkto where one was seen
-pub linkto_seen : (l : Location) (h : Held) (b : ℕ) (s : Scene) → IsHeldAt l h s → IsNoDir (held_looked h (entry_at l)).sight.what → b < l.bricks → linkto_there s.disk b (entry_at l) ≡ has_linkto (linkto_at (seen_linktos l h) b)
+pub linkto_seen :
+    (l : Location) (h : Held) (b : ℕ) (s : Scene) → IsHeldAt l h s
+    → IsNoDir (held_looked h (entry_at l)).sight.what → b < l.bricks
+    → linkto_there s.disk b (entry_at l) ≡ has_linkto (linkto_at (seen_linktos l h) b)
 linkto_seen l h b s k plain w = (let e = location_bricks l h s k in sym (linkto_is h (entry_at l) b s k.held (wanted l h k.scope) plain (omega arith)))
 
 -- from the first brick on all are left
-pub left_all : (linktos : List Linkto) (b : ℕ) → has_linkto (linkto_at linktos b) ≡ is_left linktos 0 b
+pub left_all :
+    (linktos : List Linkto) (b : ℕ) → has_linkto (linkto_at linktos b) ≡ is_left linktos 0 b
 left_all linktos b = (let e : false ≡ nat_lt b 0 = grind (arith, nat_tests) in ap (λ (v : Bool). if v then false else has_linkto (linkto_at linktos b)) e)
 
-pub held_left : (l : Location) (h : Held) (s : Scene) → Sound s → IsHeldAt l h s → IsNoDir (held_looked h (entry_at l)).sight.what → IsLeft l (file_in (held_looked h (entry_at l)).sight.what) (seen_linktos l h) 0 s
+pub held_left :
+    (l : Location) (h : Held) (s : Scene) → Sound s → IsHeldAt l h s
+    → IsNoDir (held_looked h (entry_at l)).sight.what
+    → IsLeft l (file_in (held_looked h (entry_at l)).sight.what) (seen_linktos l h) 0 s
 held_left l h s sound k plain = record {
   bricks = count_is l h s sound k;
   holds = name_held l h s k;
@@ -55,15 +63,21 @@ held_kept l h s k = record {
 }
 
 -- the directory is one of the tree
-pub kept_directory : (l : Location) (h : Held) (s : Scene) → Sound s → IsKept l h s → s.history.tree.dirs l.directory ≡ true
+pub kept_directory :
+    (l : Location) (h : Held) (s : Scene) → Sound s → IsKept l h s
+    → s.history.tree.dirs l.directory ≡ true
 kept_directory l h s sound k =
     let there = home_there l h.scope s k.scope k.fresh.scope in
     let whole = k.whole in
     read_whole l.directory (held_looked h (entry_at l)).sight s sound (omega arith) k.read
 
 -- the brick that holds the name by the layout that was read holds it, and has the directory
-pub kept_holder : (l : Location) (h : Held) (b : ℕ) (s : Scene) → Sound s → IsKept l h s → held_holder h (entry_at l) ≡ Some b → holder_of s.disk (entry_at l) ≡ Some b
+pub kept_holder :
+    (l : Location) (h : Held) (b : ℕ) (s : Scene) → Sound s → IsKept l h s
+    → held_holder h (entry_at l) ≡ Some b → holder_of s.disk (entry_at l) ≡ Some b
 kept_holder l h b s sound k e = read_holder (entry_at l) (held_looked h (entry_at l)).sight b s sound (k.whole ∙ sym (bricks_are h.scope s sound k.fresh.scope)) k.read e
 
-pub kept_housed : (l : Location) (h : Held) (b : ℕ) (s : Scene) → IsKept l h s → held_holder h (entry_at l) ≡ Some b → is_some (dir_at s.disk b l.directory) ≡ true
+pub kept_housed :
+    (l : Location) (h : Held) (b : ℕ) (s : Scene) → IsKept l h s
+    → held_holder h (entry_at l) ≡ Some b → is_some (dir_at s.disk b l.directory) ≡ true
 kept_housed l h b s k e = holder_housed (entry_at l) (held_looked h (entry_at l)).sight b s k.read e

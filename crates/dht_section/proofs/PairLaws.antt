@@ -28,7 +28,9 @@ use Rattle.dht_section.specs.declared.section.Prepared.{Prepared}
 -- ---- what it locks
 
 -- aimed at another directory it is the section of that one
-pub aimed_is : (bricks : ℕ) (d x g : Gfid) (n : List ℕ) → aimed_scope (pair_scope bricks d x n) g ≡ pair_scope bricks d g n
+pub aimed_is :
+    (bricks : ℕ) (d x g : Gfid) (n : List ℕ)
+    → aimed_scope (pair_scope bricks d x n) g ≡ pair_scope bricks d g n
 aimed_is bricks d x g n = refl
 
 -- two directories that are not one have locks in order
@@ -49,10 +51,15 @@ dirs_ranked : (a b : Gfid) → a.0 < b.0 → is_lt (rank_cmp (Dir a) (Dir b)) �
 dirs_ranked a b l = ap (λ (o : Ordering). is_lt (ordering_then o Equal)) (sym (nat_cmp_is a.0 b.0 Less l))
 
 -- the lock of each directory is one of the two
-key_there : (w : Scoped) {keys : List Key} (key : Key) (i : ℕ) → w.keys ≡ keys → i < length keys → slice_index_or keys i Rebalance ≡ key → HasKey w key
+key_there :
+    (w : Scoped) {keys : List Key} (key : Key) (i : ℕ) → w.keys ≡ keys → i < length keys
+    → slice_index_or keys i Rebalance ≡ key → HasKey w key
 key_there w key i e l is = (i, subst (λ (ks : List Key). i < length ks) (sym e) l, ap (λ (ks : List Key). slice_index_or ks i Rebalance) e ∙ is)
 
-has_either : (w : Scoped) (v : Bool) (d g : Gfid) (n : List ℕ) → w.keys ≡ Dir (if v then g else d) ∷ Dir (if v then d else g) ∷ Name d n ∷ [] → HasKey w (Dir d) × HasKey w (Dir g)
+has_either :
+    (w : Scoped) (v : Bool) (d g : Gfid) (n : List ℕ)
+    → w.keys ≡ Dir (if v then g else d) ∷ Dir (if v then d else g) ∷ Name d n ∷ []
+    → HasKey w (Dir d) × HasKey w (Dir g)
 has_either w true d g n e = (key_there w (Dir d) 1 e (omega arith) refl, key_there w (Dir g) 0 e (omega arith) refl)
 has_either w false d g n e = (key_there w (Dir d) 0 e (omega arith) refl, key_there w (Dir g) 1 e (omega arith) refl)
 
@@ -62,7 +69,8 @@ has_shared bricks d g n = (has_either (pair_scope bricks d g n) (nat_lt g.0 d.0)
 has_alone : (bricks : ℕ) (d g : Gfid) (n : List ℕ) → HasKey (pair_scope bricks d g n) (Dir g)
 has_alone bricks d g n = (has_either (pair_scope bricks d g n) (nat_lt g.0 d.0) d g n refl).1
 
-pub pair_ordered : (bricks : ℕ) (d g : Gfid) (n : List ℕ) → g ≢ d → IsOrdered (pair_scope bricks d g n)
+pub pair_ordered :
+    (bricks : ℕ) (d g : Gfid) (n : List ℕ) → g ≢ d → IsOrdered (pair_scope bricks d g n)
 pair_ordered bricks d g n ne = record { some = omega arith; kinds = kinds; above = above; named = named; housed = housed }
   where
     w : Scoped
@@ -91,7 +99,9 @@ pair_ordered bricks d g n ne = record { some = omega arith; kinds = kinds; above
     housed zero l = has_shared bricks d g n
     housed (suc i) l = absurd (omega arith)
 
-pub pair_fresh : (bricks : ℕ) (d g : Gfid) (n : List ℕ) (s : Scene) → length s.history.weights ≡ bricks → home d < bricks → s.mine.deeds ≡ None → IsFresh (pair_scope bricks d g n) s
+pub pair_fresh :
+    (bricks : ℕ) (d g : Gfid) (n : List ℕ) (s : Scene) → length s.history.weights ≡ bricks
+    → home d < bricks → s.mine.deeds ≡ None → IsFresh (pair_scope bricks d g n) s
 pair_fresh bricks d g n s count there deeds = record { scope = record { bricks = count; homes = homes }; deeds = deeds }
   where
     homes : (i : ℕ) → i < length (pair_scope bricks d g n).names → home (name_at (pair_scope bricks d g n) i).0 < bricks
@@ -108,22 +118,31 @@ alone_mode d g = by (same_gfid d g) (same_gfid g g) ((exact_gfid g g).1 refl)
     by false true e = refl
     by a false e = absurd (let z : false ≡ true = e in cc)
 
-pub pair_alone : (bricks : ℕ) (d g : Gfid) (n : List ℕ) (w : Scoped) (s : Scene) → w ≡ pair_scope bricks d g n → AllHeld w (length w.keys) s → HoldsAlone s g
+pub pair_alone :
+    (bricks : ℕ) (d g : Gfid) (n : List ℕ) (w : Scoped) (s : Scene) → w ≡ pair_scope bricks d g n
+    → AllHeld w (length w.keys) s → HoldsAlone s g
 pair_alone bricks d g n w s e h =
     let k : AllHeld (pair_scope bricks d g n) 3 s = subst (λ (v : Scoped). AllHeld v (length v.keys) s) e h in
     let there = has_alone bricks d g n in
     subst (λ (key : Key). HoldsKey (pair_scope bricks d g n) key s) there.2 (k there.0 there.1) ∙ ap Some (alone_mode d g)
 
-pub pair_name_held : (bricks : ℕ) (d g : Gfid) (n : List ℕ) (w : Scoped) (s : Scene) → w ≡ pair_scope bricks d g n → g ≢ d → AllHeld w (length w.keys) s → HoldsName s (d, n)
+pub pair_name_held :
+    (bricks : ℕ) (d g : Gfid) (n : List ℕ) (w : Scoped) (s : Scene) → w ≡ pair_scope bricks d g n
+    → g ≢ d → AllHeld w (length w.keys) s → HoldsName s (d, n)
 pair_name_held bricks d g n w s e ne h = holds_name (pair_scope bricks d g n) 0 s (pair_ordered bricks d g n ne) (omega arith) (subst (λ (v : Scoped). AllHeld v (length v.keys) s) e h)
 
 -- ---- what was seen
 
-pub pair_looked : (bricks : ℕ) (d g : Gfid) (n : List ℕ) (h : Held) (s : Scene) → h.scope ≡ pair_scope bricks d g n → IsHeld h s → IsLooked h.scope.bricks (d, n) (held_looked h (d, n)) s
+pub pair_looked :
+    (bricks : ℕ) (d g : Gfid) (n : List ℕ) (h : Held) (s : Scene)
+    → h.scope ≡ pair_scope bricks d g n → IsHeld h s
+    → IsLooked h.scope.bricks (d, n) (held_looked h (d, n)) s
 pair_looked bricks d g n h s e k = found_is h (d, n) s k (subst (λ (w : Scoped). Contains w.names (d, n)) (sym e) (at_first (d, n) []))
 
 -- a directory that was gone is that in which the name stands
-pub pair_gone : (bricks : ℕ) (d g x : Gfid) (n : List ℕ) (w : Scoped) → w ≡ pair_scope bricks d g n → IsOfName w x → d ≡ x
+pub pair_gone :
+    (bricks : ℕ) (d g x : Gfid) (n : List ℕ) (w : Scoped) → w ≡ pair_scope bricks d g n
+    → IsOfName w x → d ≡ x
 pair_gone bricks d g x n w e h = one (subst (λ (v : Scoped). IsOfName v x) e h)
   where
     one : IsOfName (pair_scope bricks d g n) x → d ≡ x
@@ -132,11 +151,16 @@ pair_gone bricks d g x n w e h = one (subst (λ (v : Scoped). IsOfName v x) e h)
 
 -- ---- its memory
 
-pub pair_aimed : (bricks : ℕ) (d g : Gfid) (n : List ℕ) (p : Prepared) → IsPairRoom bricks d n p → (aimed_pair p g).scope ≡ pair_scope bricks d g n
+pub pair_aimed :
+    (bricks : ℕ) (d g : Gfid) (n : List ℕ) (p : Prepared) → IsPairRoom bricks d n p
+    → (aimed_pair p g).scope ≡ pair_scope bricks d g n
 pair_aimed bricks d g n p room = ap (λ (w : Scoped). aimed_scope w g) room.0.1
 
 -- a section of the directory may begin with it
-pub pair_begins : (bricks : ℕ) (d g : Gfid) (n : List ℕ) (p : Prepared) (s : Scene) → g ≢ d → IsPairRoom bricks d n p → length s.history.weights ≡ bricks → home d < bricks → s.mine.deeds ≡ None → CanBegin (aimed_pair p g) s
+pub pair_begins :
+    (bricks : ℕ) (d g : Gfid) (n : List ℕ) (p : Prepared) (s : Scene) → g ≢ d
+    → IsPairRoom bricks d n p → length s.history.weights ≡ bricks → home d < bricks
+    → s.mine.deeds ≡ None → CanBegin (aimed_pair p g) s
 pair_begins bricks d g n p s ne room count there deeds =
     let is = pair_aimed bricks d g n p room in
     record {
@@ -146,5 +170,7 @@ pair_begins bricks d g n p s ne room count there deeds =
     }
 
 -- and is left when it has ended
-pub pair_left : (bricks : ℕ) (d g : Gfid) (n : List ℕ) (p : Prepared) (s : Scene) → p.scope ≡ pair_scope bricks d g n → CanBegin p s → IsPairRoom bricks d n p
+pub pair_left :
+    (bricks : ℕ) (d g : Gfid) (n : List ℕ) (p : Prepared) (s : Scene)
+    → p.scope ≡ pair_scope bricks d g n → CanBegin p s → IsPairRoom bricks d n p
 pair_left bricks d g n p s e h = ((g, e), h.room ∙ ap (λ (w : Scoped). length w.names) e)

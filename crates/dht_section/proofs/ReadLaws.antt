@@ -31,7 +31,9 @@ use Rattle.dht_section.specs.declared.machine.Ask.{Ask}
 
 -- ---- a look
 
-look_range : (e : Entry) (b : BrickNo) (s t : Scene) (r : Reply) → fault_of r ≡ None → Guarantee s (asks_look e b) r t → range_shown r ≡ range_at s.disk e.0 b.0
+look_range :
+    (e : Entry) (b : BrickNo) (s t : Scene) (r : Reply) → fault_of r ≡ None
+    → Guarantee s (asks_look e b) r t → range_shown r ≡ range_at s.disk e.0 b.0
 look_range e b s t r z m = ap range_shown (row_reply s t _ r m z) ∙ range_there (dir_at s.disk b.0 e.0) (s.disk.brick b.0) e
 
 -- the home's look is the section's end where the home has no copy
@@ -41,7 +43,10 @@ not_both true false h e k = absurd (let z : false ≡ true = k in cc)
 not_both false b h e k = absurd (let z : false ≡ true = e in cc)
 
 -- what it shows of the directory
-pub look_read : (e : Entry) (b : BrickNo) (s t : Scene) (r : Reply) → Sound s → b.0 < s.disk.count → fault_of r ≡ None → shows_gone e.0 b r ≡ false → Guarantee s (asks_look e b) r t → ReadAt e.0 (is_carried (reply_kind r)) (range_shown r) b.0 t
+pub look_read :
+    (e : Entry) (b : BrickNo) (s t : Scene) (r : Reply) → Sound s → b.0 < s.disk.count
+    → fault_of r ≡ None → shows_gone e.0 b r ≡ false → Guarantee s (asks_look e b) r t
+    → ReadAt e.0 (is_carried (reply_kind r)) (range_shown r) b.0 t
 look_read e b s t r sound l z going m = subst (λ (mark : Bool). ReadAt e.0 mark (range_shown r) b.0 t) (sym (ap (λ x. is_carried (reply_kind x)) reply ∙ carried_there (dir_at s.disk b.0 e.0) (s.disk.brick b.0) e)) (by (dir_at s.disk b.0 e.0) refl)
   where
     reply : r ≡ look_reply (dir_at s.disk b.0 e.0) (s.disk.brick b.0) e
@@ -90,31 +95,48 @@ module _ (s t : Scene) (g : Gfid) (same : (b : ℕ) → dir_at t.disk b g ≡ di
   reads_kept x h b l = read_kept (mark_at x.copies b) (slice_index_or x.layout b None) b (h b l)
 
 -- as they do where a quiet request of one's own was answered
-pub reads_moved : (s t : Scene) (a : Ask) (r : Reply) → IsQuiet a.request → (g : Gfid) (x : Sight) → Reads g x s → Guarantee s a r t → Reads g x t
+pub reads_moved :
+    (s t : Scene) (a : Ask) (r : Reply) → IsQuiet a.request → (g : Gfid) (x : Sight) → Reads g x s
+    → Guarantee s a r t → Reads g x t
 reads_moved s t a r q g x h m = reads_kept s t g (dir_moved s t a r m q g) m.disk.count m.weights x h
 
 -- ---- with one brick more
 
-pub longer : (ranges : List (Option Range)) (range : Option Range) → length ranges < 32 → lengthened ranges range ≡ ranges ++ range ∷ []
+pub longer :
+    (ranges : List (Option Range)) (range : Option Range) → length ranges < 32
+    → lengthened ranges range ≡ ranges ++ range ∷ []
 longer ranges range h = by (nat_lt (length ranges) 32) refl
   where
     by : (v : Bool) → nat_lt (length ranges) 32 ≡ v → (if v then ranges ++ range ∷ [] else ranges) ≡ ranges ++ range ∷ []
     by true e = refl
     by false e = absurd (grind (arith, nat_tests, h, e))
 
-pub longer_length : (ranges : List (Option Range)) (range : Option Range) → length ranges < 32 → length (lengthened ranges range) ≡ length ranges + 1
+pub longer_length :
+    (ranges : List (Option Range)) (range : Option Range) → length ranges < 32
+    → length (lengthened ranges range) ≡ length ranges + 1
 longer_length ranges range h = ap length (longer ranges range h) ∙ length-append ranges (range ∷ [])
 
-pub longer_there : (ranges : List (Option Range)) (range : Option Range) → length ranges < 32 → slice_index_or (lengthened ranges range) (length ranges) None ≡ range
+pub longer_there :
+    (ranges : List (Option Range)) (range : Option Range) → length ranges < 32
+    → slice_index_or (lengthened ranges range) (length ranges) None ≡ range
 longer_there ranges range h = ap (λ x. slice_index_or x (length ranges) None) (longer ranges range h) ∙ get_or-append_seam ranges range [] None
 
-pub longer_below : (ranges : List (Option Range)) (range : Option Range) (i : ℕ) → length ranges < 32 → i < length ranges → slice_index_or (lengthened ranges range) i None ≡ slice_index_or ranges i None
+pub longer_below :
+    (ranges : List (Option Range)) (range : Option Range) (i : ℕ) → length ranges < 32
+    → i < length ranges
+    → slice_index_or (lengthened ranges range) i None ≡ slice_index_or ranges i None
 longer_below ranges range i h l = ap (λ x. slice_index_or x i None) (longer ranges range h) ∙ get_or-append ranges (range ∷ []) None i l
 
-read_as : (g : Gfid) (a b : Bool) (x y : Option Range) (i : ℕ) (t : Scene) → a ≡ b → x ≡ y → ReadAt g a x i t → ReadAt g b y i t
+read_as :
+    (g : Gfid) (a b : Bool) (x y : Option Range) (i : ℕ) (t : Scene) → a ≡ b → x ≡ y
+    → ReadAt g a x i t → ReadAt g b y i t
 read_as g a b x y i t e k h = subst (λ (mark : Bool). ReadAt g mark y i t) e (subst (λ (o : Option Range). ReadAt g a o i t) k h)
 
-pub reads_more : (bricks : ℕ) (g : Gfid) (x : Sight) (b : BrickNo) (r : Reply) (t : Scene) → length x.layout ≡ b.0 → length x.copies ≡ 32 → b.0 < 32 → Reads g x t → ReadAt g (is_carried (reply_kind r)) (range_shown r) b.0 t → Reads g (sight_with bricks x b r) t
+pub reads_more :
+    (bricks : ℕ) (g : Gfid) (x : Sight) (b : BrickNo) (r : Reply) (t : Scene)
+    → length x.layout ≡ b.0 → length x.copies ≡ 32 → b.0 < 32 → Reads g x t
+    → ReadAt g (is_carried (reply_kind r)) (range_shown r) b.0 t
+    → Reads g (sight_with bricks x b r) t
 reads_more bricks g x b r t whole room few h new i l = elim (nat_cases i b.0) [
   | inl q ↦ subst (λ (j : ℕ). ReadAt g (mark_at y.copies j) (slice_index_or y.layout j None) j t) (sym q) here
   | inr ne ↦ elsewhere ne

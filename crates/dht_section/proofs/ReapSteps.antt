@@ -45,7 +45,9 @@ use Rattle.dht_section.specs.declared.reap.Reap.TheVariants.{Sealing, Dropping}
 abbrev asks_seal : Orphan → Ask
 asks_seal x = record { brick = record { 0 = reap_brick x }; request = Seal x.file }
 
-seal_keeps_store : (x : Orphan) (s t : Scene) (r : Reply) → Guarantee s (asks_seal x) r t → (i : ℕ) → (t.disk.brick i).store ≡ (s.disk.brick i).store
+seal_keeps_store :
+    (x : Orphan) (s t : Scene) (r : Reply) → Guarantee s (asks_seal x) r t → (i : ℕ)
+    → (t.disk.brick i).store ≡ (s.disk.brick i).store
 seal_keeps_store x s t r m i =
     let c : Contents = s.disk.brick (reap_brick x) in
     brick_keeps (λ (c : Contents). c.store) s t (asks_seal x) r m (within_keeps (λ (c : Contents). c.store) (with_opens c) (seal_row x.file c.opens) c (λ a. refl)) i
@@ -54,18 +56,36 @@ no_step : (b : ℕ) (f : Gfid) (r : Reply) → step_of b (Seal f) r ≡ None
 no_step b f (Carried given) = refl
 no_step b f r = refl
 
-seal_keeps_tree : (x : Orphan) (s t : Scene) (r : Reply) → Guarantee s (asks_seal x) r t → t.history.tree ≡ s.history.tree
+seal_keeps_tree :
+    (x : Orphan) (s t : Scene) (r : Reply) → Guarantee s (asks_seal x) r t
+    → t.history.tree ≡ s.history.tree
 seal_keeps_tree x s t r m = m.tree ∙ ap (λ (o : Option TreeStep). tree_by o s.history.tree) (no_step (reap_brick x) x.file m.real)
 
 -- a seal that was carried out seals the file
 has_inserted : (o : Opens) (f : Gfid) → is_sealed (sealed o f) f ≡ true
 has_inserted o f = ap is_some (get-insert_here gfid_total o.sealed f tt)
 
-sealed_by : (v : Bool) (c : Contents) (f : Gfid) (n : ℕ) (r : Reply) → r ≡ reply_in (within (with_opens c) (if v then Do given.Nothing (sealed c.opens f) else Refuse (why.Open n))) → is_carried (reply_kind r) ≡ true → is_sealed (left_by (within (with_opens c) (if v then Do given.Nothing (sealed c.opens f) else Refuse (why.Open n))) c).opens f ≡ true
+sealed_by :
+    (v : Bool) (c : Contents) (f : Gfid) (n : ℕ) (r : Reply)
+    → r
+    ≡ reply_in
+    (within (with_opens c)
+    (if v then Do given.Nothing (sealed c.opens f) else Refuse (why.Open n)))
+    → is_carried (reply_kind r) ≡ true
+    → is_sealed
+    (left_by
+    (within (with_opens c)
+    (if v then Do given.Nothing (sealed c.opens f) else Refuse (why.Open n)))
+    c).opens
+    f
+    ≡ true
 sealed_by true c f n r e k = has_inserted c.opens f
 sealed_by false c f n r e k = absurd (let z : false ≡ true = sym (ap (λ y. is_carried (reply_kind y)) e) ∙ k in cc)
 
-sealed_after : (x : Orphan) (s t : Scene) (r : Reply) → reap_brick x ≡ anchor x.file s.disk.count → is_carried (reply_kind r) ≡ true → Guarantee s (asks_seal x) r t → (view_of t.disk x.file).sealed ≡ true
+sealed_after :
+    (x : Orphan) (s t : Scene) (r : Reply) → reap_brick x ≡ anchor x.file s.disk.count
+    → is_carried (reply_kind r) ≡ true → Guarantee s (asks_seal x) r t
+    → (view_of t.disk x.file).sealed ≡ true
 sealed_after x s t r e k m =
     let c : Contents = s.disk.brick (reap_brick x) in
     let row = row_moved s t (asks_seal x) r m (carried_sound r k) in
@@ -75,7 +95,9 @@ sealed_after x s t r e k m =
     ∙ sealed_by (registrations c.opens x.file == 0) c x.file (registrations c.opens x.file) r row.0 k))
 
 -- the file has no name still
-nameless_after : (x : Orphan) (s t : Scene) (r : Reply) → IsOrphan x s → (view_of t.disk x.file).sealed ≡ true → Guarantee s (asks_seal x) r t → IsNameless t.disk t.history.tree x.file
+nameless_after :
+    (x : Orphan) (s t : Scene) (r : Reply) → IsOrphan x s → (view_of t.disk x.file).sealed ≡ true
+    → Guarantee s (asks_seal x) r t → IsNameless t.disk t.history.tree x.file
 nameless_after x s t r h q m =
     let count = m.disk.count in
     record {
@@ -84,7 +106,9 @@ nameless_after x s t r h q m =
       copies = λ i e l. ap (λ (c : Store). is_copy x.file (slot c e).standby) (seal_keeps_store x s t r m i) ∙ h.nameless.copies i e (omega arith);
     }
 
-shut_after : (x : Orphan) (s t : Scene) (r : Reply) → reap_brick x ≡ anchor x.file s.disk.count → is_carried (reply_kind r) ≡ true → IsOrphan x s → Guarantee s (asks_seal x) r t → IsShut x t
+shut_after :
+    (x : Orphan) (s t : Scene) (r : Reply) → reap_brick x ≡ anchor x.file s.disk.count
+    → is_carried (reply_kind r) ≡ true → IsOrphan x s → Guarantee s (asks_seal x) r t → IsShut x t
 shut_after x s t r e k h m =
     let q = sealed_after x s t r e k m in
     let l = h.there in
@@ -97,11 +121,19 @@ shut_after x s t r e k h m =
 -- ---- its steps
 
 -- a seal is carried out, or the file is open
-seal_decided : (v : Bool) (c : Contents) (f : Gfid) (n : ℕ) (r : Reply) → r ≡ reply_in (within (with_opens c) (if v then Do given.Nothing (sealed c.opens f) else Refuse (why.Open n))) → is_sealing r ≡ true
+seal_decided :
+    (v : Bool) (c : Contents) (f : Gfid) (n : ℕ) (r : Reply)
+    → r
+    ≡ reply_in
+    (within (with_opens c)
+    (if v then Do given.Nothing (sealed c.opens f) else Refuse (why.Open n)))
+    → is_sealing r ≡ true
 seal_decided true c f n r e = ap is_sealing e
 seal_decided false c f n r e = ap is_sealing e
 
-seal_is_answered : (x : Orphan) (s t : Scene) (r : Reply) → fault_of r ≡ None → Guarantee s (asks_seal x) r t → is_sealing r ≡ true
+seal_is_answered :
+    (x : Orphan) (s t : Scene) (r : Reply) → fault_of r ≡ None → Guarantee s (asks_seal x) r t
+    → is_sealing r ≡ true
 seal_is_answered x s t r z m =
     let c : Contents = s.disk.brick (reap_brick x) in
     seal_decided (registrations c.opens x.file == 0) c x.file (registrations c.opens x.file) r (row_reply s t (asks_seal x) r m z)
@@ -156,7 +188,9 @@ drop_noted x (Carried g) z = refl
 drop_noted x (Declined w) z = refl
 drop_noted x r z = z
 
-noted_by : (m : Reap) (r : Reply) (o : Option Errno) → fault_of r ≡ o → EndsByFault r (reap_unless o (reap_answered m r))
+noted_by :
+    (m : Reap) (r : Reply) (o : Option Errno) → fault_of r ≡ o
+    → EndsByFault r (reap_unless o (reap_answered m r))
 noted_by (Sealing x) r None z = seal_noted x r z
 noted_by (Dropping x) r None z = drop_noted x r z
 noted_by m r (Some e) z = sym z
@@ -174,6 +208,8 @@ drop_again x (Carried g) z = absurd (let q : true ≡ false = z in cc)
 drop_again x (Declined w) z = absurd (let q : true ≡ false = z in cc)
 drop_again x r z = refl
 
-pub reap_again : (locks : List Lock) (m : Reap) (r : Reply) → IsUnanswered (reap_stage locks m) r → reap_after m r ≡ Go m
+pub reap_again :
+    (locks : List Lock) (m : Reap) (r : Reply) → IsUnanswered (reap_stage locks m) r
+    → reap_after m r ≡ Go m
 reap_again locks (Sealing x) r h = ap (λ (o : Option Errno). reap_unless o (seal_answered x r)) h.0 ∙ seal_again x r h.1
 reap_again locks (Dropping x) r h = ap (λ (o : Option Errno). reap_unless o (drop_answered x r)) h.0 ∙ drop_again x r h.1

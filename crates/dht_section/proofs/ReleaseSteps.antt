@@ -17,17 +17,23 @@ use Rattle.dht_section.specs.declared.release.Release.{Release}
 use Rattle.dht_section.specs.declared.section.Held.{Held}
 use Rattle.dht_section.specs.declared.section.Prepared.{Prepared}
 
-pub can_begin_moved : (p : Prepared) (s t : Scene) (a : Ask) (r : Reply) → IsQuiet a.request → CanBegin p s → Guarantee s a r t → CanBegin p t
+pub can_begin_moved :
+    (p : Prepared) (s t : Scene) (a : Ask) (r : Reply) → IsQuiet a.request → CanBegin p s
+    → Guarantee s a r t → CanBegin p t
 can_begin_moved p s t a r q h m = record { order = h.order; fresh = fresh_moved p.scope s t a r q h.fresh m; room = h.room }
 
 abbrev Went : Release → Reply → Scene → Turn Release Prepared → Type 0
 Went m r t turn = MatchTurn turn (λ n. GoesOn (release_stage m) (release_stage n) r t) (λ d. EndsIn (release_stage m) (released_ending d) t)
 
-either : (m : Release) (r : Reply) (t : Scene) (b : Bool) (x y : Turn Release Prepared) → (b ≡ true → Went m r t x) → (b ≡ false → Went m r t y) → Went m r t (if b then x else y)
+either :
+    (m : Release) (r : Reply) (t : Scene) (b : Bool) (x y : Turn Release Prepared)
+    → (b ≡ true → Went m r t x) → (b ≡ false → Went m r t y) → Went m r t (if b then x else y)
 either m r t true x y h k = h refl
 either m r t false x y h k = k refl
 
-pub release_moves : (m : Release) (r : Reply) (at : ℕ) → Moves release_stage released_ending m r at (release_after m)
+pub release_moves :
+    (m : Release) (r : Reply) (at : ℕ)
+    → Moves release_stage released_ending m r at (release_after m)
 release_moves m r at s t v = either m r t (nat_lt 0 m.place) _ _
     (λ e. unlocking_next m.scope m.place (CanBegin (memory_of m)) (can_begin_moved (memory_of m)) (grind (arith, nat_tests, e)) r at s t v)
     (λ e. record {

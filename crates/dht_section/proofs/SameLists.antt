@@ -1,4 +1,5 @@
--- A list that is in order already stays as it is when it is sorted; so a section of one name locks its directory and then the name.
+-- A list that is in order already stays as it is when it is sorted;
+-- so a section of one name locks its directory and then the name.
 use Rattle.std.proofs.Common.{◌≡◌, ◌<◌, ℕ, refl, sym, ◌∙◌, ap, subst, arith, inl, inr, ◌⊎◌, List, [], ◌∷◌}
 use Rattle.std.specs.Prelude.{zero, suc, length, slice_index_or, Contains}
 use Rattle.std.specs.Cmp.{IsTotalOrder, tied_itself}
@@ -16,7 +17,8 @@ use Rattle.dht_section.specs.Claims.{rank_cmp}
 use Rattle.dht_section.specs.Want.{Scoped, IsSorting, IsScope, IsOfOne, entry_cmp}
 
 -- what is in a list is its first element, or in the rest
-pub in_cons : {A : Type 0} (x : A) (xs : List A) (z : A) → Contains (x ∷ xs) z → (x ≡ z) ⊎ Contains xs z
+pub in_cons :
+    {A : Type 0} (x : A) (xs : List A) (z : A) → Contains (x ∷ xs) z → (x ≡ z) ⊎ Contains xs z
 in_cons x xs z h = by h.0 h.1 h.2
   where
     by : (k : ℕ) → k < length (x ∷ xs) → slice_index_or (x ∷ xs) k z ≡ z → (x ≡ z) ⊎ Contains xs z
@@ -73,7 +75,10 @@ one_sorted : (e : Entry) → IsStrictlySortedBy entry_cmp (e ∷ [])
 unfolding IsStrictlySortedBy
 one_sorted e = (tt, tt)
 
-pub one_name : (bricks : ℕ) (g : Gfid) (mode : Mode) (n : List ℕ) (w : Scoped) → IsScope bricks (record { dirs = (g, mode) ∷ []; names = (g, n) ∷ [] }) w → IsOfOne bricks g mode n w
+pub one_name :
+    (bricks : ℕ) (g : Gfid) (mode : Mode) (n : List ℕ) (w : Scoped)
+    → IsScope bricks (record { dirs = (g, mode) ∷ []; names = (g, n) ∷ [] }) w
+    → IsOfOne bricks g mode n w
 one_name bricks g mode n w h = record {
   count = h.count;
   modes = h.modes;

@@ -42,7 +42,9 @@ use Rattle.dht_section.specs.Shapes.{NameShape}
 use Rattle.dht_section.specs.Stages.{is_wait}
 use Rattle.dht_section.specs.Views.{core}
 
-put_off : {K A : Type 0} (same : K → K → Bool) (f : K → A) (k : K) (v : A) (m : K) → same m k ≡ false → put same f k v m ≡ f m
+put_off :
+    {K A : Type 0} (same : K → K → Bool) (f : K → A) (k : K) (v : A) (m : K) → same m k ≡ false
+    → put same f k v m ≡ f m
 unfolding put
 put_off same f k v m e = ap (λ b. if b then v else f m) e
 
@@ -67,17 +69,25 @@ IsQuiet (OnNames q) = IsQuietName q
 IsQuiet q = ⊥
 
 -- what a part of the contents leaves of the whole
-pub within_keeps : {A X : Type 0} (g : Contents → X) (whole : A → Contents) (o : Outcome A) (c : Contents) → ((a : A) → g (whole a) ≡ g c) → g (left_by (within whole o) c) ≡ g c
+pub within_keeps :
+    {A X : Type 0} (g : Contents → X) (whole : A → Contents) (o : Outcome A) (c : Contents)
+    → ((a : A) → g (whole a) ≡ g c) → g (left_by (within whole o) c) ≡ g c
 within_keeps g whole (Do given new) c h = h new
 within_keeps g whole (Refuse why) c h = refl
 within_keeps g whole (Await holder) c h = refl
 
 -- a lock that is asked for changes no other one
-asked_keeps : (o : Option ℕ) (c : Contents) (new : Locks) (k : Key) → new k ≡ c.locks k → (left_by (within (with_locks c) (unless_awaited o (Do given.Nothing new))) c).locks k ≡ c.locks k
+asked_keeps :
+    (o : Option ℕ) (c : Contents) (new : Locks) (k : Key) → new k ≡ c.locks k
+    → (left_by (within (with_locks c) (unless_awaited o (Do given.Nothing new))) c).locks k
+    ≡ c.locks k
 asked_keeps None c new k e = e
 asked_keeps (Some holder) c new k e = refl
 
-after_lock : (bricks : List (List ℕ)) (client : ClientNo) (call : CallNo) (q : Request) (c : Contents) (k : Key) → Leaves q k → (after bricks client call q c).locks k ≡ c.locks k
+after_lock :
+    (bricks : List (List ℕ)) (client : ClientNo) (call : CallNo) (q : Request) (c : Contents)
+    (k : Key)
+    → Leaves q k → (after bricks client call q c).locks k ≡ c.locks k
 after_lock bricks client call (Lock key mode) c k l = asked_keeps (awaited c.locks client key mode) c _ k (put_off same_key c.locks key _ k l)
 after_lock bricks client call (Unlock key) c k l = put_off same_key c.locks key _ k l
 after_lock bricks client call (Register f) c k l = within_keeps (λ (x : Contents). x.locks k) (with_opens c) (register_row client call f c.opens) c (λ a. refl)
@@ -87,11 +97,15 @@ after_lock bricks client call (OnNames q) c k l = within_keeps (λ (x : Contents
 after_lock bricks client call (OnFile q) c k l = within_keeps (λ (x : Contents). x.locks k) (with_store c) (file_row bricks q c.store) c (λ a. refl)
 
 -- what only shows something of a directory leaves the store
-shown_keeps : (o : Option DirRecord) (given : DirRecord → Given) (c : Contents) → (left_by (within (with_store c) (in_dir o (λ r. Do (given r) c.store))) c).store ≡ c.store
+shown_keeps :
+    (o : Option DirRecord) (given : DirRecord → Given) (c : Contents)
+    → (left_by (within (with_store c) (in_dir o (λ r. Do (given r) c.store))) c).store ≡ c.store
 shown_keeps None given c = refl
 shown_keeps (Some r) given c = refl
 
-pub after_store : (bricks : List (List ℕ)) (client : ClientNo) (call : CallNo) (q : Request) (c : Contents) → IsQuiet q → (after bricks client call q c).store ≡ c.store
+pub after_store :
+    (bricks : List (List ℕ)) (client : ClientNo) (call : CallNo) (q : Request) (c : Contents)
+    → IsQuiet q → (after bricks client call q c).store ≡ c.store
 after_store bricks client call (Lock key mode) c h = within_keeps (λ (x : Contents). x.store) (with_locks c) (lock_row client key mode c.locks) c (λ l. refl)
 after_store bricks client call (Unlock key) c h = refl
 after_store bricks client call (OnNames (Look d n)) c h = shown_keeps (Rattle.std.specs.FinMap.get c.store.dirs d) _ c
@@ -101,7 +115,10 @@ after_store bricks client call q c h = absurd h
 -- ---- what a reply says
 
 -- a fact of the contents that the row keeps is kept also where nothing was done
-pub served_keeps : {X : Type 0} (g : Contents → X) (o : Outcome Contents) (old : Contents) (r : Reply) (new : Contents) → g (left_by o old) ≡ g old → ServesOrFails o old r new → g new ≡ g old
+pub served_keeps :
+    {X : Type 0} (g : Contents → X) (o : Outcome Contents) (old : Contents) (r : Reply)
+    (new : Contents)
+    → g (left_by o old) ≡ g old → ServesOrFails o old r new → g new ≡ g old
 served_keeps g o old (Carried given) new e h = sym (ap (λ x. g (left_by x old)) h) ∙ e
 served_keeps g o old (Declined why) new e h = ap g h.1
 served_keeps g o old (Wait holder) new e h = ap g h.1
@@ -110,7 +127,9 @@ served_keeps g o old Failed new e h = ap g h
 served_keeps g o old NoMemory new e h = ap g h
 
 -- a reply that is no fault is the row's, and so is what is left
-pub served_row : (o : Outcome Contents) (old : Contents) (r : Reply) (new : Contents) → fault_of r ≡ None → ServesOrFails o old r new → (r ≡ reply_in o) × (new ≡ left_by o old)
+pub served_row :
+    (o : Outcome Contents) (old : Contents) (r : Reply) (new : Contents) → fault_of r ≡ None
+    → ServesOrFails o old r new → (r ≡ reply_in o) × (new ≡ left_by o old)
 served_row o old (Carried given) new e h = (sym (ap reply_in h), sym (ap (λ x. left_by x old) h))
 served_row o old (Declined why) new e h = (sym (ap reply_in h.0), h.1 ∙ sym (ap (λ x. left_by x old) h.0))
 served_row o old (Wait holder) new e h = (sym (ap reply_in h.0), h.1 ∙ sym (ap (λ x. left_by x old) h.0))
@@ -123,16 +142,23 @@ real_by : (cut : Bool) (real r : Reply) → r ≡ seen_of cut real → fault_of 
 real_by true real r e z = absurd (let k : Some Enotconn ≡ None = sym (ap fault_of e) ∙ z in cc)
 real_by false real r e z = sym e
 
-pub real_is : (s t : Scene) (a : Ask) (r : Reply) (m : Guarantee s a r t) → fault_of r ≡ None → m.real ≡ r
+pub real_is :
+    (s t : Scene) (a : Ask) (r : Reply) (m : Guarantee s a r t) → fault_of r ≡ None → m.real ≡ r
 real_is s t a r m z = real_by m.cut m.real r m.seen z
 
-pub served_as_seen : (s t : Scene) (a : Ask) (r : Reply) (m : Guarantee s a r t) → fault_of r ≡ None → ServesOrFails (outcome_of s a) (s.disk.brick a.brick.0) r m.new
+pub served_as_seen :
+    (s t : Scene) (a : Ask) (r : Reply) (m : Guarantee s a r t) → fault_of r ≡ None
+    → ServesOrFails (outcome_of s a) (s.disk.brick a.brick.0) r m.new
 served_as_seen s t a r m z = subst (λ (x : Reply). ServesOrFails (outcome_of s a) (s.disk.brick a.brick.0) x m.new) (real_is s t a r m z) m.served
 
-pub row_moved : (s t : Scene) (a : Ask) (r : Reply) (m : Guarantee s a r t) → fault_of r ≡ None → (r ≡ reply_in (outcome_of s a)) × (m.new ≡ left_by (outcome_of s a) (s.disk.brick a.brick.0))
+pub row_moved :
+    (s t : Scene) (a : Ask) (r : Reply) (m : Guarantee s a r t) → fault_of r ≡ None
+    → (r ≡ reply_in (outcome_of s a)) × (m.new ≡ left_by (outcome_of s a) (s.disk.brick a.brick.0))
 row_moved s t a r m z = served_row (outcome_of s a) (s.disk.brick a.brick.0) r m.new z (served_as_seen s t a r m z)
 
-pub row_reply : (s t : Scene) (a : Ask) (r : Reply) → Guarantee s a r t → fault_of r ≡ None → r ≡ reply_in (outcome_of s a)
+pub row_reply :
+    (s t : Scene) (a : Ask) (r : Reply) → Guarantee s a r t → fault_of r ≡ None
+    → r ≡ reply_in (outcome_of s a)
 row_reply s t a r m z = (row_moved s t a r m z).0
 
 -- a request that was carried out is no fault
@@ -145,7 +171,9 @@ carried_sound Failed e = absurd (let k : false ≡ true = e in cc)
 carried_sound NoMemory e = absurd (let k : false ≡ true = e in cc)
 
 -- and the step of the tree was done that the request stands for
-pub carried_step : (b : ℕ) (q : NameRequest) (r : Reply) → is_carried (reply_kind r) ≡ true → step_of b (OnNames q) r ≡ name_step b q
+pub carried_step :
+    (b : ℕ) (q : NameRequest) (r : Reply) → is_carried (reply_kind r) ≡ true
+    → step_of b (OnNames q) r ≡ name_step b q
 carried_step b q (Carried given) e = refl
 carried_step b q (Declined why) e = absurd (let k : false ≡ true = e in cc)
 carried_step b q (Wait holder) e = absurd (let k : false ≡ true = e in cc)
@@ -158,7 +186,9 @@ true_or : (b : Bool) → (b || true) ≡ true
 true_or true = refl
 true_or false = refl
 
-pub fault_earned : (s t : Scene) (a : Ask) (r : Reply) (e : Errno) → fault_of r ≡ Some e → Guarantee s a r t → MayAnswer (fault_finish e) t
+pub fault_earned :
+    (s t : Scene) (a : Ask) (r : Reply) (e : Errno) → fault_of r ≡ Some e → Guarantee s a r t
+    → MayAnswer (fault_finish e) t
 fault_earned s t a (Carried given) e h m = absurd (let k : None ≡ Some e = h in cc)
 fault_earned s t a (Declined why) e h m = absurd (let k : None ≡ Some e = h in cc)
 fault_earned s t a (Wait holder) e h m = absurd (let k : None ≡ Some e = h in cc)
@@ -169,23 +199,34 @@ fault_earned s t a NoMemory e h m = subst (λ x. MayAnswer (fault_finish x) t) (
 -- ---- what is left on the bricks
 
 -- what one request keeps on its brick, it keeps on all
-pub brick_keeps : {X : Type 0} (g : Contents → X) (s t : Scene) (a : Ask) (r : Reply) → Guarantee s a r t → g (left_by (outcome_of s a) (s.disk.brick a.brick.0)) ≡ g (s.disk.brick a.brick.0) → (i : ℕ) → g (t.disk.brick i) ≡ g (s.disk.brick i)
+pub brick_keeps :
+    {X : Type 0} (g : Contents → X) (s t : Scene) (a : Ask) (r : Reply) → Guarantee s a r t
+    → g (left_by (outcome_of s a) (s.disk.brick a.brick.0)) ≡ g (s.disk.brick a.brick.0) → (i : ℕ)
+    → g (t.disk.brick i) ≡ g (s.disk.brick i)
 brick_keeps g s t a r m e i =
     ap (λ (f : ℕ → Contents). g (f i)) m.disk.brick
     ∙ put_keeps g nat_eq exact_nat s.disk.brick a.brick.0 m.new (served_keeps g (outcome_of s a) (s.disk.brick a.brick.0) m.real m.new e m.served) i
 
 -- a quiet request leaves what bricks store
-pub store_moved : (s t : Scene) (a : Ask) (r : Reply) → Guarantee s a r t → IsQuiet a.request → (b : ℕ) → (t.disk.brick b).store ≡ (s.disk.brick b).store
+pub store_moved :
+    (s t : Scene) (a : Ask) (r : Reply) → Guarantee s a r t → IsQuiet a.request → (b : ℕ)
+    → (t.disk.brick b).store ≡ (s.disk.brick b).store
 store_moved s t a r m h b = brick_keeps (λ (c : Contents). c.store) s t a r m (after_store _ s.who s.mine.number a.request (s.disk.brick a.brick.0) h) b
 
-pub slot_moved : (s t : Scene) (a : Ask) (r : Reply) → Guarantee s a r t → IsQuiet a.request → (e : Entry) (b : ℕ) → slot_at t.disk b e ≡ slot_at s.disk b e
+pub slot_moved :
+    (s t : Scene) (a : Ask) (r : Reply) → Guarantee s a r t → IsQuiet a.request
+    → (e : Entry) (b : ℕ) → slot_at t.disk b e ≡ slot_at s.disk b e
 slot_moved s t a r m h e b = ap (λ (x : Store). slot x e) (store_moved s t a r m h b)
 
-pub dir_moved : (s t : Scene) (a : Ask) (r : Reply) → Guarantee s a r t → IsQuiet a.request → (g : Gfid) (b : ℕ) → dir_at t.disk b g ≡ dir_at s.disk b g
+pub dir_moved :
+    (s t : Scene) (a : Ask) (r : Reply) → Guarantee s a r t → IsQuiet a.request → (g : Gfid) (b : ℕ)
+    → dir_at t.disk b g ≡ dir_at s.disk b g
 dir_moved s t a r m h g b = ap (λ (x : Store). dir x g) (store_moved s t a r m h b)
 
 -- a lock of mine that my request leaves is held as it was
-pub lock_moved : (s t : Scene) (a : Ask) (r : Reply) → Guarantee s a r t → (g : Gfid) (k : Key) → Leaves a.request k → lock_at t.disk g k t.who ≡ lock_at s.disk g k s.who
+pub lock_moved :
+    (s t : Scene) (a : Ask) (r : Reply) → Guarantee s a r t → (g : Gfid) (k : Key)
+    → Leaves a.request k → lock_at t.disk g k t.who ≡ lock_at s.disk g k s.who
 lock_moved s t a r m g k l =
     ap (λ (c : ClientNo). lock_at t.disk g k c) m.who
     ∙ (ap (λ (n : ℕ). (t.disk.brick (anchor g n)).locks k s.who.0) m.disk.count
@@ -194,26 +235,39 @@ lock_moved s t a r m g k l =
 -- ---- locks
 
 -- what is left of the brick that answered
-pub new_is : (s t : Scene) (a : Ask) (r : Reply) (m : Guarantee s a r t) → t.disk.brick a.brick.0 ≡ m.new
+pub new_is :
+    (s t : Scene) (a : Ask) (r : Reply) (m : Guarantee s a r t) → t.disk.brick a.brick.0 ≡ m.new
 new_is s t a r m = ap (λ (f : ℕ → Contents). f a.brick.0) m.disk.brick ∙ put_same nat_eq exact_nat s.disk.brick a.brick.0 m.new
 
 -- how a lock is held that was set so
-set_as : (locks : Locks) (key : Key) (client : ℕ) (mode : Option Mode) → held locks key client mode key client ≡ mode
+set_as :
+    (locks : Locks) (key : Key) (client : ℕ) (mode : Option Mode)
+    → held locks key client mode key client ≡ mode
 set_as locks key client mode = ap (λ (f : ℕ → Option Mode). f client) (put_same same_key exact_key locks key _) ∙ put_same nat_eq exact_nat (locks key) client mode
 
 -- a lock that was asked for is taken, or it is another client's and is to be waited for
-granted_by : (o : Option ℕ) (c : Contents) (new : Locks) (r : Reply) → r ≡ reply_in (within (with_locks c) (unless_awaited o (Do given.Nothing new))) → is_carried (reply_kind r) ≡ true → (left_by (within (with_locks c) (unless_awaited o (Do given.Nothing new))) c).locks ≡ new
+granted_by :
+    (o : Option ℕ) (c : Contents) (new : Locks) (r : Reply)
+    → r ≡ reply_in (within (with_locks c) (unless_awaited o (Do given.Nothing new)))
+    → is_carried (reply_kind r) ≡ true
+    → (left_by (within (with_locks c) (unless_awaited o (Do given.Nothing new))) c).locks ≡ new
 granted_by None c new r e k = refl
 granted_by (Some holder) c new r e k = absurd (let z : false ≡ true = sym (ap (λ x. is_carried (reply_kind x)) e) ∙ k in cc)
 
-waits_by : (o : Option ℕ) (c : Contents) (new : Locks) (r : Reply) → r ≡ reply_in (within (with_locks c) (unless_awaited o (Do given.Nothing new))) → is_carried (reply_kind r) ≡ false → is_wait r ≡ true
+waits_by :
+    (o : Option ℕ) (c : Contents) (new : Locks) (r : Reply)
+    → r ≡ reply_in (within (with_locks c) (unless_awaited o (Do given.Nothing new)))
+    → is_carried (reply_kind r) ≡ false → is_wait r ≡ true
 waits_by None c new r e k = absurd (let z : true ≡ false = sym (ap (λ x. is_carried (reply_kind x)) e) ∙ k in cc)
 waits_by (Some holder) c new r e k = ap is_wait e
 
 abbrev pub asks_lock : ℕ → Key → Mode → Ask
 asks_lock b key mode = record { brick = record { 0 = b }; request = Lock key mode }
 
-pub lock_taken : (s t : Scene) (b : ℕ) (g : Gfid) (key : Key) (mode : Mode) (r : Reply) → b ≡ anchor g s.disk.count → is_carried (reply_kind r) ≡ true → Guarantee s (asks_lock b key mode) r t → lock_at t.disk g key t.who ≡ Some mode
+pub lock_taken :
+    (s t : Scene) (b : ℕ) (g : Gfid) (key : Key) (mode : Mode) (r : Reply)
+    → b ≡ anchor g s.disk.count → is_carried (reply_kind r) ≡ true
+    → Guarantee s (asks_lock b key mode) r t → lock_at t.disk g key t.who ≡ Some mode
 lock_taken s t b g key mode r e k m =
     let c = s.disk.brick b in
     let row = row_moved s t (asks_lock b key mode) r m (carried_sound r k) in
@@ -224,17 +278,23 @@ lock_taken s t b g key mode r e k m =
     ∙ (ap (λ (f : Locks). f key s.who.0) (granted_by (awaited c.locks s.who key mode) c (held c.locks key s.who.0 (Some mode)) r row.0 k)
     ∙ set_as c.locks key s.who.0 (Some mode)))))
 
-pub lock_waits : (s t : Scene) (b : ℕ) (key : Key) (mode : Mode) (r : Reply) → fault_of r ≡ None → is_carried (reply_kind r) ≡ false → Guarantee s (asks_lock b key mode) r t → is_wait r ≡ true
+pub lock_waits :
+    (s t : Scene) (b : ℕ) (key : Key) (mode : Mode) (r : Reply) → fault_of r ≡ None
+    → is_carried (reply_kind r) ≡ false → Guarantee s (asks_lock b key mode) r t → is_wait r ≡ true
 lock_waits s t b key mode r z k m = waits_by (awaited (s.disk.brick b).locks s.who key mode) (s.disk.brick b) (held (s.disk.brick b).locks key s.who.0 (Some mode)) r (row_reply s t (asks_lock b key mode) r m z) k
 
 -- a lock that was given back is not held
 abbrev pub asks_unlock : ℕ → Key → Ask
 asks_unlock b key = record { brick = record { 0 = b }; request = Unlock key }
 
-unlocked_by : (o : Outcome Contents) (old : Contents) (r : Reply) (new : Contents) → is_carried (reply_kind r) ≡ true → ServesOrFails o old r new → new ≡ left_by o old
+unlocked_by :
+    (o : Outcome Contents) (old : Contents) (r : Reply) (new : Contents)
+    → is_carried (reply_kind r) ≡ true → ServesOrFails o old r new → new ≡ left_by o old
 unlocked_by o old r new k h = (served_row o old r new (carried_sound r k) h).1
 
-pub lock_given_back : (s t : Scene) (b : ℕ) (key : Key) (r : Reply) → Guarantee s (asks_unlock b key) r t → (t.disk.brick b).locks key t.who.0 ≡ None
+pub lock_given_back :
+    (s t : Scene) (b : ℕ) (key : Key) (r : Reply) → Guarantee s (asks_unlock b key) r t
+    → (t.disk.brick b).locks key t.who.0 ≡ None
 lock_given_back s t b key r m =
     let c = s.disk.brick b in
     ap (λ (i : ClientNo). (t.disk.brick b).locks key i.0) m.who
@@ -252,21 +312,29 @@ no_step b (OnNames (Dirinfo d)) (Carried given) h = refl
 no_step b q (Carried given) h = absurd h
 no_step b q r h = refl
 
-pub deeds_quiet : (s t : Scene) (a : Ask) (r : Reply) → IsQuiet a.request → Guarantee s a r t → t.mine.deeds ≡ s.mine.deeds
+pub deeds_quiet :
+    (s t : Scene) (a : Ask) (r : Reply) → IsQuiet a.request → Guarantee s a r t
+    → t.mine.deeds ≡ s.mine.deeds
 deeds_quiet s t a r q m = m.mine.deeds_are ∙ ap (λ (o : Option TreeStep). deeds_by s t.history.size o) (no_step a.brick.0 a.request m.real q)
 
-pub tree_quiet : (s t : Scene) (a : Ask) (r : Reply) → IsQuiet a.request → Guarantee s a r t → t.history.tree ≡ s.history.tree
+pub tree_quiet :
+    (s t : Scene) (a : Ask) (r : Reply) → IsQuiet a.request → Guarantee s a r t
+    → t.history.tree ≡ s.history.tree
 tree_quiet s t a r q m = m.tree ∙ ap (λ (o : Option TreeStep). tree_by o s.history.tree) (no_step a.brick.0 a.request m.real q)
 
 -- a call that is the only one was so before its request
-pub alone_before : (s t : Scene) (a : Ask) (r : Reply) → Guarantee s a r t → IsAlone t.history t.mine → IsAlone s.history s.mine
+pub alone_before :
+    (s t : Scene) (a : Ask) (r : Reply) → Guarantee s a r t → IsAlone t.history t.mine
+    → IsAlone s.history s.mine
 alone_before s t a r m h = record {
   first = sym m.mine.alone ∙ h.first;
   last = ap (λ (k : CallNo). k.0) (sym m.mine.number) ∙ (h.last ∙ m.calls);
 }
 
 -- each name stands as it did
-pub stands_moved : (s t : Scene) (a : Ask) (r : Reply) (e : Entry) (h : NameShape) → IsQuiet a.request → NameStands s e h → Guarantee s a r t → NameStands t e h
+pub stands_moved :
+    (s t : Scene) (a : Ask) (r : Reply) (e : Entry) (h : NameShape) → IsQuiet a.request
+    → NameStands s e h → Guarantee s a r t → NameStands t e h
 stands_moved s t a r e h q k m = record {
   fits = subst (λ (n : ℕ). Rattle.dht_section.specs.Shapes.NameFits n h) (sym m.disk.count) k.fits;
   has = λ b l. ap core (slot_moved s t a r m q e b) ∙ k.has b (let c = m.disk.count in omega arith);

@@ -45,7 +45,10 @@ use Rattle.dht_section.specs.declared.section.Unheld.TheVariants.{Gone, Stopped}
 
 -- ---- the beginning
 
-pub begins : (bricks : ℕ) (want : Wanted) (w : Scoped) (looks : List Looked) (s : Scene) → IsScope bricks want w → IsWhole want → length looks ≡ length w.names → MayBegin bricks want s → LockingKnows w 0 looks s
+pub begins :
+    (bricks : ℕ) (want : Wanted) (w : Scoped) (looks : List Looked) (s : Scene)
+    → IsScope bricks want w → IsWhole want → length looks ≡ length w.names → MayBegin bricks want s
+    → LockingKnows w 0 looks s
 begins bricks want w looks s scope whole room h = record {
   order = order;
   fresh = record {
@@ -67,10 +70,14 @@ begins bricks want w looks s scope whole room h = record {
 
 -- ---- what a request of one's own leaves
 
-pub fresh_moved : (w : Scoped) (s t : Scene) (a : Ask) (r : Reply) → IsQuiet a.request → IsFresh w s → Guarantee s a r t → IsFresh w t
+pub fresh_moved :
+    (w : Scoped) (s t : Scene) (a : Ask) (r : Reply) → IsQuiet a.request → IsFresh w s
+    → Guarantee s a r t → IsFresh w t
 fresh_moved w s t a r q h m = record { scope = scope_moved w s t a r h.scope m; deeds = deeds_quiet s t a r q m ∙ h.deeds }
 
-pub gone_moved : (g : Gfid) (at : ℕ) (s t : Scene) (a : Ask) (r : Reply) → IsQuiet a.request → WasGone g at s → Guarantee s a r t → WasGone g at t
+pub gone_moved :
+    (g : Gfid) (at : ℕ) (s t : Scene) (a : Ask) (r : Reply) → IsQuiet a.request → WasGone g at s
+    → Guarantee s a r t → WasGone g at t
 gone_moved g at s t a r q h m =
     let later = m.later in
     let before = h.before in
@@ -83,7 +90,9 @@ gone_moved g at s t a r q h m =
       gone = ap (λ (p : Tree). p.dirs g) (m.past at h.before) ∙ h.gone;
     }
 
-pub unheld_moved : (w : Scoped) (x : Unheld) (s t : Scene) (a : Ask) (r : Reply) → IsQuiet a.request → unheld_earned w x s → Guarantee s a r t → unheld_earned w x t
+pub unheld_moved :
+    (w : Scoped) (x : Unheld) (s t : Scene) (a : Ask) (r : Reply) → IsQuiet a.request
+    → unheld_earned w x s → Guarantee s a r t → unheld_earned w x t
 unheld_moved w (Gone g at) s t a r q h m = (h.0, gone_moved g at s t a r q h.1 m)
 unheld_moved w (Stopped e) s t a r q h m = may_answer_moved (fault_finish e) s t a r (deeds_quiet s t a r q m) m h
 
@@ -104,7 +113,10 @@ nothing_of (File f b links) e s = nothing_shown e s
 -- ---- the locks
 
 -- the locks below a place are held after the one at the place was granted, and that one is too
-held_more : (w : Scoped) (i : ℕ) (looks : List Looked) (r : Reply) (at : ℕ) (s t : Scene) → is_carried (reply_kind r) ≡ true → Served (section_stage (Locking w i looks)) r at s t → AllHeld w (suc i) t
+held_more :
+    (w : Scoped) (i : ℕ) (looks : List Looked) (r : Reply) (at : ℕ) (s t : Scene)
+    → is_carried (reply_kind r) ≡ true → Served (section_stage (Locking w i looks)) r at s t
+    → AllHeld w (suc i) t
 held_more w i looks r at s t k v j l = elim (nat_cases j i) [
   | inl q ↦ subst (λ (n : ℕ). HoldsKey w (key_at w n) t) (sym q) taken
   | inr ne ↦ by (same_key (key_at w j) (key_at w i)) refl (omega (arith, below j i l ne))
@@ -127,10 +139,16 @@ held_more w i looks r at s t k v j l = elim (nat_cases j i) [
     by true e m = subst (λ (key : Key). HoldsKey w key t) (sym ((exact_key (key_at w j) (key_at w i)).0 e)) taken
     by false e m = lock_moved s t _ r v.moved (dir_of (key_at w j)) (key_at w j) e ∙ v.is_at.knows.holds j m
 
-listed_more : (w : Scoped) (i b : ℕ) (key : Key) → Listed (claimed w i) b key → Listed (claimed w (suc i)) b key
+listed_more :
+    (w : Scoped) (i b : ℕ) (key : Key) → Listed (claimed w i) b key
+    → Listed (claimed w (suc i)) b key
 listed_more w i b key h = subst (λ (ls : List ALock). Listed ls b key) (sym (claimed_more w i)) (inr h)
 
-pub locked_next : (w : Scoped) (i next : ℕ) (looks : List Looked) (r : Reply) (at : ℕ) (s t : Scene) → next ≡ suc i → is_carried (reply_kind r) ≡ true → nat_lt 1 (length w.keys - i) ≡ true → Served (section_stage (Locking w i looks)) r at s t → GoesOn (section_stage (Locking w i looks)) (section_stage (Locking w next looks)) r t
+pub locked_next :
+    (w : Scoped) (i next : ℕ) (looks : List Looked) (r : Reply) (at : ℕ) (s t : Scene)
+    → next ≡ suc i → is_carried (reply_kind r) ≡ true → nat_lt 1 (length w.keys - i) ≡ true
+    → Served (section_stage (Locking w i looks)) r at s t
+    → GoesOn (section_stage (Locking w i looks)) (section_stage (Locking w next looks)) r t
 locked_next w i next looks r at s t n k e v =
     let h = v.is_at.knows in
     let more : 1 < length w.keys - i = grind (arith, nat_tests, e) in
@@ -153,10 +171,17 @@ last_place i n l e = grind (arith, nat_tests, l, e)
 top_place : (i n : ℕ) → suc i ≡ n → suc i ≡ suc (n - 1)
 top_place i n e = omega arith
 
-same_listed : (w : Scoped) (i n b : ℕ) (key : Key) → i ≡ n → Listed (claimed w i) b key → Listed (claimed w n) b key
+same_listed :
+    (w : Scoped) (i n b : ℕ) (key : Key) → i ≡ n → Listed (claimed w i) b key
+    → Listed (claimed w n) b key
 same_listed w i n b key e h = subst (λ (k : ℕ). Listed (claimed w k) b key) e h
 
-pub first_look : (w : Scoped) (i : ℕ) (looks : List Looked) (r : Reply) (at : ℕ) (s t : Scene) → is_carried (reply_kind r) ≡ true → nat_lt 1 (length w.keys - i) ≡ false → nat_lt 0 (length w.names) ≡ true → Served (section_stage (Locking w i looks)) r at s t → GoesOn (section_stage (Locking w i looks)) (section_stage (Looking w looks 0 (record { 0 = 0 }) no_sight)) r t
+pub first_look :
+    (w : Scoped) (i : ℕ) (looks : List Looked) (r : Reply) (at : ℕ) (s t : Scene)
+    → is_carried (reply_kind r) ≡ true → nat_lt 1 (length w.keys - i) ≡ false
+    → nat_lt 0 (length w.names) ≡ true → Served (section_stage (Locking w i looks)) r at s t
+    → GoesOn (section_stage (Locking w i looks))
+    (section_stage (Looking w looks 0 (record { 0 = 0 }) no_sight)) r t
 first_look w i looks r at s t k e z v =
     let h = v.is_at.knows in
     let within = h.within in
@@ -188,7 +213,12 @@ first_look w i looks r at s t k e z v =
     minus_none n = omega arith
 
 -- there are no names
-pub none_wanted : (w : Scoped) (i : ℕ) (looks : List Looked) (r : Reply) (at : ℕ) (s t : Scene) → is_carried (reply_kind r) ≡ true → nat_lt 1 (length w.keys - i) ≡ false → nat_lt 0 (length w.names) ≡ false → Served (section_stage (Locking w i looks)) r at s t → EndsIn (section_stage (Locking w i looks)) (opened_ending (Holding (record { scope = w; looks = looks }))) t
+pub none_wanted :
+    (w : Scoped) (i : ℕ) (looks : List Looked) (r : Reply) (at : ℕ) (s t : Scene)
+    → is_carried (reply_kind r) ≡ true → nat_lt 1 (length w.keys - i) ≡ false
+    → nat_lt 0 (length w.names) ≡ false → Served (section_stage (Locking w i looks)) r at s t
+    → EndsIn (section_stage (Locking w i looks))
+    (opened_ending (Holding (record { scope = w; looks = looks }))) t
 none_wanted w i looks r at s t k e z v =
     let h = v.is_at.knows in
     let within = h.within in
@@ -205,7 +235,10 @@ none_wanted w i looks r at s t k e z v =
     }
 
 -- a stage whose request is to be sent again
-pub again : (x : Stage) (r : Reply) (at : ℕ) (s t : Scene) → IsStable x → fault_of r ≡ None → is_carried (reply_kind r) ≡ false → is_wait r ≡ true → x.claims ≡ claims_locks x.claims.locks → Served x r at s t → GoesOn x x r t
+pub again :
+    (x : Stage) (r : Reply) (at : ℕ) (s t : Scene) → IsStable x → fault_of r ≡ None
+    → is_carried (reply_kind r) ≡ false → is_wait r ≡ true → x.claims ≡ claims_locks x.claims.locks
+    → Served x r at s t → GoesOn x x r t
 again x r at s t stable z k w e v = record {
   claims = subst (λ c. MayClaimNext t x.claims c) (sym e) (claims_more x r at s t x.claims.locks v (λ b key h. h));
   knows = stable s t v.is_at.knows (unserved_is_rely s t x.asks r z k v.moved);
@@ -213,12 +246,19 @@ again x r at s t stable z k w e v = record {
 }
 
 -- the lock is another client's
-pub lock_again : (w : Scoped) (i : ℕ) (looks : List Looked) (r : Reply) (at : ℕ) (s t : Scene) → fault_of r ≡ None → is_carried (reply_kind r) ≡ false → Served (section_stage (Locking w i looks)) r at s t → GoesOn (section_stage (Locking w i looks)) (section_stage (Locking w i looks)) r t
+pub lock_again :
+    (w : Scoped) (i : ℕ) (looks : List Looked) (r : Reply) (at : ℕ) (s t : Scene)
+    → fault_of r ≡ None → is_carried (reply_kind r) ≡ false
+    → Served (section_stage (Locking w i looks)) r at s t
+    → GoesOn (section_stage (Locking w i looks)) (section_stage (Locking w i looks)) r t
 lock_again w i looks r at s t z k v = again (section_stage (Locking w i looks)) r at s t (section_stable (Locking w i looks)) z k (lock_waits s t (lock_brick w (key_at w i)) (key_at w i) (mode_of w (key_at w i)) r z k v.moved) refl v
 
 -- ---- how it stops
 
-pub lock_stopped : (w : Scoped) (i : ℕ) (looks : List Looked) (e : Errno) (r : Reply) (at : ℕ) (s t : Scene) → fault_of r ≡ Some e → Served (section_stage (Locking w i looks)) r at s t → GoesOn (section_stage (Locking w i looks)) (section_stage (Unlocking w i (Stopped e))) r t
+pub lock_stopped :
+    (w : Scoped) (i : ℕ) (looks : List Looked) (e : Errno) (r : Reply) (at : ℕ) (s t : Scene)
+    → fault_of r ≡ Some e → Served (section_stage (Locking w i looks)) r at s t
+    → GoesOn (section_stage (Locking w i looks)) (section_stage (Unlocking w i (Stopped e))) r t
 lock_stopped w i looks e r at s t z v =
     let h = v.is_at.knows in
     let within = h.within in

@@ -53,18 +53,26 @@ unfolding looks_left
 more_left bricks names = refl
 
 -- those of a name, and of the names after it
-pub left_now : (bricks n count : ℕ) → n < count → looks_left bricks (count - n) ≡ looks_left bricks (count - suc n) + bricks
+pub left_now :
+    (bricks n count : ℕ) → n < count
+    → looks_left bricks (count - n) ≡ looks_left bricks (count - suc n) + bricks
 left_now bricks n count l =
     let e : count - n ≡ suc (count - suc n) = omega arith in
     ap (looks_left bricks) e ∙ more_left bricks (count - suc n)
 
 -- ---- what one look shows
 
-is_link : (f : Gfid) (over : Option BrickNo) (p : Slot) → p.main ≡ Some (AFile f over) → links_to f p ≡ true
+is_link :
+    (f : Gfid) (over : Option BrickNo) (p : Slot) → p.main ≡ Some (AFile f over)
+    → links_to f p ≡ true
 is_link f over p e = ap (λ (m : Option Main). is_file f m || is_standlink f p.standby) e ∙ ap (λ (b : Bool). b || is_standlink f p.standby) ((exact_gfid f f).1 refl)
 
 -- what is known of a file after a look at one more brick
-what_more : (e : Entry) (x : What) (hop : ℕ) (b : BrickNo) (m : Option Main) (links shown : ℕ) (t : Scene) → WhatShown e x hop t → ((f : Gfid) (over : Option BrickNo) → m ≡ Some (AFile f over) → FileShown e b.0 f shown t) → WhatShown e (what_by x b m links) (hop_by hop m shown) t
+what_more :
+    (e : Entry) (x : What) (hop : ℕ) (b : BrickNo) (m : Option Main) (links shown : ℕ) (t : Scene)
+    → WhatShown e x hop t
+    → ((f : Gfid) (over : Option BrickNo) → m ≡ Some (AFile f over) → FileShown e b.0 f shown t)
+    → WhatShown e (what_by x b m links) (hop_by hop m shown) t
 what_more e x hop b None links shown t h new = h
 what_more e x hop b (Some (ADir g)) links shown t h new = tt
 what_more e x hop b (Some (AFile f over)) links shown t h new = new f over refl
@@ -72,10 +80,14 @@ what_more e x hop b (Some (Linkto value)) links shown t h new = h
 
 -- ---- what a look leaves
 
-held_moved : (w : Scoped) (i n : ℕ) (b : BrickNo) (s t : Scene) (r : Reply) → AllHeld w i s → Guarantee s (look_ask w n b) r t → AllHeld w i t
+held_moved :
+    (w : Scoped) (i n : ℕ) (b : BrickNo) (s t : Scene) (r : Reply) → AllHeld w i s
+    → Guarantee s (look_ask w n b) r t → AllHeld w i t
 held_moved w i n b s t r h m j l = lock_moved s t _ r m (dir_of (key_at w j)) (key_at w j) tt ∙ h j l
 
-saw_at_moved : (e : Entry) (x : Looked) (s t : Scene) (a : Ask) (r : Reply) → IsQuiet a.request → SawAt e x s → Guarantee s a r t → SawAt e x t
+saw_at_moved :
+    (e : Entry) (x : Looked) (s t : Scene) (a : Ask) (r : Reply) → IsQuiet a.request → SawAt e x s
+    → Guarantee s a r t → SawAt e x t
 saw_at_moved e x s t a r quiet h m =
     let later = m.later in
     let before = h.before in
@@ -91,10 +103,15 @@ saw_at_moved e x s t a r quiet h m =
       is = ap (λ (p : Tree). p.descents e.0) (tree_quiet s t a r quiet m) ∙ h.is;
     }
 
-file_moved : (w : Scoped) (n : ℕ) (b : BrickNo) (s t : Scene) (r : Reply) → Guarantee s (look_ask w n b) r t → (f : Gfid) (i : ℕ) → file_at t.disk i f ≡ file_at s.disk i f
+file_moved :
+    (w : Scoped) (n : ℕ) (b : BrickNo) (s t : Scene) (r : Reply) → Guarantee s (look_ask w n b) r t
+    → (f : Gfid) (i : ℕ) → file_at t.disk i f ≡ file_at s.disk i f
 file_moved w n b s t r m f i = ap (λ (x : Store). file x f) (store_moved s t _ r m tt i)
 
-file_shown_moved : (w : Scoped) (n : ℕ) (b : BrickNo) (e : Entry) (c : ℕ) (f : Gfid) (hop : ℕ) (s t : Scene) (r : Reply) → FileShown e c f hop s → Guarantee s (look_ask w n b) r t → FileShown e c f hop t
+file_shown_moved :
+    (w : Scoped) (n : ℕ) (b : BrickNo) (e : Entry) (c : ℕ) (f : Gfid) (hop : ℕ) (s t : Scene)
+    (r : Reply)
+    → FileShown e c f hop s → Guarantee s (look_ask w n b) r t → FileShown e c f hop t
 file_shown_moved w n b e c f hop s t r h m =
     let there = h.there in
     let count = m.disk.count in
@@ -104,12 +121,16 @@ file_shown_moved w n b e c f hop s t r h m =
       moved = h.moved ∙ ap (λ (o : Option Record). (shape_of o).hop) (sym (file_moved w n b s t r m f c));
     }
 
-what_moved : (w : Scoped) (n : ℕ) (b : BrickNo) (e : Entry) (x : What) (hop : ℕ) (s t : Scene) (r : Reply) → WhatShown e x hop s → Guarantee s (look_ask w n b) r t → WhatShown e x hop t
+what_moved :
+    (w : Scoped) (n : ℕ) (b : BrickNo) (e : Entry) (x : What) (hop : ℕ) (s t : Scene) (r : Reply)
+    → WhatShown e x hop s → Guarantee s (look_ask w n b) r t → WhatShown e x hop t
 what_moved w n b e Absent hop s t r h m = tt
 what_moved w n b e (Dir g) hop s t r h m = tt
 what_moved w n b e (File f c links) hop s t r h m = file_shown_moved w n b e c.0 f hop s t r h m
 
-brick_moved : (w : Scoped) (n : ℕ) (b : BrickNo) (e : Entry) (x : Sight) (i : ℕ) (s t : Scene) (r : Reply) → BrickShown e x i s → Guarantee s (look_ask w n b) r t → BrickShown e x i t
+brick_moved :
+    (w : Scoped) (n : ℕ) (b : BrickNo) (e : Entry) (x : Sight) (i : ℕ) (s t : Scene) (r : Reply)
+    → BrickShown e x i s → Guarantee s (look_ask w n b) r t → BrickShown e x i t
 brick_moved w n b e x i s t r p m =
     let there = p.there in
     let count = m.disk.count in
@@ -120,7 +141,9 @@ brick_moved w n b e x i s t r p m =
           ∙ ap (λ (v : Slot). linkto_in (length t.history.weights) v.main) (sym (slot_moved s t _ r m tt e i)));
     }
 
-shown_moved : (w : Scoped) (n : ℕ) (b : BrickNo) (e : Entry) (x : Sight) (limit : ℕ) (s t : Scene) (r : Reply) → Shown e x limit s → Guarantee s (look_ask w n b) r t → Shown e x limit t
+shown_moved :
+    (w : Scoped) (n : ℕ) (b : BrickNo) (e : Entry) (x : Sight) (limit : ℕ) (s t : Scene) (r : Reply)
+    → Shown e x limit s → Guarantee s (look_ask w n b) r t → Shown e x limit t
 shown_moved w n b e x limit s t r h m = record {
   room = h.room;
   bricks = λ i l. brick_moved w n b e x i s t r (h.bricks i l) m;
@@ -128,13 +151,18 @@ shown_moved w n b e x limit s t r h m = record {
 }
 
 -- with one brick more
-room_more : (w : Scoped) (b : BrickNo) (x : Sight) (r : Reply) → b.0 < 32 → HasRoom x → HasRoom (sight_with w.bricks x b r)
+room_more :
+    (w : Scoped) (b : BrickNo) (x : Sight) (r : Reply) → b.0 < 32 → HasRoom x
+    → HasRoom (sight_with w.bricks x b r)
 room_more w b x r few h = (
   set_length x.linktos b.0 _ (let q = h.0 in omega arith) ∙ h.0,
   set_length x.copies b.0 _ (let q = h.1 in omega arith) ∙ h.1,
 )
 
-shown_more : (w : Scoped) (n : ℕ) (b : BrickNo) (x : Sight) (s t : Scene) (r : Reply) → Sound s → HasScope w s → b.0 < s.disk.count → b.0 < 32 → fault_of r ≡ None → Shown (name_at w n) x b.0 s → Guarantee s (look_ask w n b) r t → Shown (name_at w n) (sight_with w.bricks x b r) (b.0 + 1) t
+shown_more :
+    (w : Scoped) (n : ℕ) (b : BrickNo) (x : Sight) (s t : Scene) (r : Reply) → Sound s
+    → HasScope w s → b.0 < s.disk.count → b.0 < 32 → fault_of r ≡ None → Shown (name_at w n) x b.0 s
+    → Guarantee s (look_ask w n b) r t → Shown (name_at w n) (sight_with w.bricks x b r) (b.0 + 1) t
 shown_more w n b x s t r sound scope there few z h m = record {
   room = room_more w b x r few h.room;
   bricks = λ i l. elim (nat_cases i b.0) [
@@ -175,28 +203,41 @@ shown_more w n b x s t r sound scope there few z h m = record {
         }) m
 
 -- of a name that is a directory there is room for more alone
-pub room_of : (e : Entry) (full : What) (x : Sight) (limit : ℕ) (s : Scene) → ShownOf full e x limit s → HasRoom x
+pub room_of :
+    (e : Entry) (full : What) (x : Sight) (limit : ℕ) (s : Scene) → ShownOf full e x limit s
+    → HasRoom x
 room_of e Absent x limit s h = h.room
 room_of e (Dir g) x limit s h = h
 room_of e (File f b links) x limit s h = h.room
 
-shown_of_moved : (w : Scoped) (n : ℕ) (b : BrickNo) (e : Entry) (full : What) (x : Sight) (limit : ℕ) (s t : Scene) (r : Reply) → ShownOf full e x limit s → Guarantee s (look_ask w n b) r t → ShownOf full e x limit t
+shown_of_moved :
+    (w : Scoped) (n : ℕ) (b : BrickNo) (e : Entry) (full : What) (x : Sight) (limit : ℕ)
+    (s t : Scene) (r : Reply)
+    → ShownOf full e x limit s → Guarantee s (look_ask w n b) r t → ShownOf full e x limit t
 shown_of_moved w n b e Absent x limit s t r h m = shown_moved w n b e x limit s t r h m
 shown_of_moved w n b e (Dir g) x limit s t r h m = h
 shown_of_moved w n b e (File f c links) x limit s t r h m = shown_moved w n b e x limit s t r h m
 
-shown_of_more : (w : Scoped) (n : ℕ) (b : BrickNo) (full : What) (x : Sight) (s t : Scene) (r : Reply) → Sound s → HasScope w s → b.0 < s.disk.count → b.0 < 32 → fault_of r ≡ None → ShownOf full (name_at w n) x b.0 s → Guarantee s (look_ask w n b) r t → ShownOf full (name_at w n) (sight_with w.bricks x b r) (b.0 + 1) t
+shown_of_more :
+    (w : Scoped) (n : ℕ) (b : BrickNo) (full : What) (x : Sight) (s t : Scene) (r : Reply) → Sound s
+    → HasScope w s → b.0 < s.disk.count → b.0 < 32 → fault_of r ≡ None
+    → ShownOf full (name_at w n) x b.0 s → Guarantee s (look_ask w n b) r t
+    → ShownOf full (name_at w n) (sight_with w.bricks x b r) (b.0 + 1) t
 shown_of_more w n b Absent x s t r sound scope there few z h m = shown_more w n b x s t r sound scope there few z h m
 shown_of_more w n b (Dir g) x s t r sound scope there few z h m = room_more w b x r few h
 shown_of_more w n b (File f c links) x s t r sound scope there few z h m = shown_more w n b x s t r sound scope there few z h m
 
 -- a name stands as it did
-seen_moved : (w : Scoped) (n : ℕ) (b : BrickNo) (e : Entry) (full : What) (s t : Scene) (r : Reply) → StandsSeen e full s → Guarantee s (look_ask w n b) r t → StandsSeen e full t
+seen_moved :
+    (w : Scoped) (n : ℕ) (b : BrickNo) (e : Entry) (full : What) (s t : Scene) (r : Reply)
+    → StandsSeen e full s → Guarantee s (look_ask w n b) r t → StandsSeen e full t
 seen_moved w n b e Absent s t r h m = stands_moved s t _ r e Bare tt h m
 seen_moved w n b e (Dir g) s t r h m = (h.0, stands_moved s t _ r e (Folder g h.0) tt h.1 m)
 seen_moved w n b e (File f c links) s t r h m = stands_moved s t _ r e (Plain c.0 f) tt h m
 
-looked_moved : (w : Scoped) (n : ℕ) (b : BrickNo) (e : Entry) (x : Looked) (s t : Scene) (r : Reply) → IsLooked w.bricks e x s → Guarantee s (look_ask w n b) r t → IsLooked w.bricks e x t
+looked_moved :
+    (w : Scoped) (n : ℕ) (b : BrickNo) (e : Entry) (x : Looked) (s t : Scene) (r : Reply)
+    → IsLooked w.bricks e x s → Guarantee s (look_ask w n b) r t → IsLooked w.bricks e x t
 looked_moved w n b e x s t r h m = record {
   stands = seen_moved w n b e x.sight.what s t r h.stands m;
   read = reads_moved s t _ r tt e.0 x.sight h.read m;
@@ -217,7 +258,12 @@ pub record AfterLook (w : Scoped) (looks : List Looked) (n : ℕ) (b : BrickNo) 
   pub shown : ShownOf saw.full (name_at w n) x (b.0 + 1) t
   pub looked : AllLooked w n looks t
 
-pub after_look : (w : Scoped) (looks : List Looked) (n : ℕ) (b : BrickNo) (x : Sight) (r : Reply) (at : ℕ) (s t : Scene) → fault_of r ≡ None → shows_gone (name_at w n).0 b r ≡ false → Served (section_stage (Looking w looks n b x)) r at s t → AfterLook w looks n b (sight_with w.bricks x b r) s t
+pub after_look :
+    (w : Scoped) (looks : List Looked) (n : ℕ) (b : BrickNo) (x : Sight) (r : Reply) (at : ℕ)
+    (s t : Scene)
+    → fault_of r ≡ None → shows_gone (name_at w n).0 b r ≡ false
+    → Served (section_stage (Looking w looks n b x)) r at s t
+    → AfterLook w looks n b (sight_with w.bricks x b r) s t
 after_look w looks n b x r at s t z going v =
     let h = v.is_at.knows in
     let m = v.moved in
@@ -248,7 +294,14 @@ after_look w looks n b x r at s t z going v =
 
 -- ---- the next brick
 
-pub next_brick : (w : Scoped) (looks : List Looked) (n : ℕ) (b : BrickNo) (x : Sight) (r : Reply) (at : ℕ) (s t : Scene) → fault_of r ≡ None → shows_gone (name_at w n).0 b r ≡ false → nat_lt 1 (w.bricks - b.0) ≡ true → Served (section_stage (Looking w looks n b x)) r at s t → GoesOn (section_stage (Looking w looks n b x)) (section_stage (Looking w looks n (record { 0 = b.0 + 1 }) (sight_with w.bricks x b r))) r t
+pub next_brick :
+    (w : Scoped) (looks : List Looked) (n : ℕ) (b : BrickNo) (x : Sight) (r : Reply) (at : ℕ)
+    (s t : Scene)
+    → fault_of r ≡ None → shows_gone (name_at w n).0 b r ≡ false → nat_lt 1 (w.bricks - b.0) ≡ true
+    → Served (section_stage (Looking w looks n b x)) r at s t
+    → GoesOn (section_stage (Looking w looks n b x))
+    (section_stage (Looking w looks n (record { 0 = b.0 + 1 }) (sight_with w.bricks x b r))) r
+    t
 next_brick w looks n b x r at s t z going e v =
     let h = v.is_at.knows in
     let a = after_look w looks n b x r at s t z going v in
@@ -275,7 +328,9 @@ next_brick w looks n b x r at s t z going e v =
 -- ---- the last brick of a name
 
 -- where a directory was read on all bricks, its home has its copy, so that it is one of the tree
-pub read_whole : (g : Gfid) (x : Sight) (t : Scene) → Sound t → home g < length x.layout → Reads g x t → t.history.tree.dirs g ≡ true
+pub read_whole :
+    (g : Gfid) (x : Sight) (t : Scene) → Sound t → home g < length x.layout → Reads g x t
+    → t.history.tree.dirs g ≡ true
 read_whole g x t sound l h = (sound.kept.things.dirs g).homed ∙ by (mark_at x.copies (home g)) (h (home g) l)
   where
     by : (mark : Bool) → ReadAt g mark (slice_index_or x.layout (home g) None) (home g) t → is_some (dir_at t.disk (home g) g) ≡ true
@@ -283,7 +338,11 @@ read_whole g x t sound l h = (sound.kept.things.dirs g).homed ∙ by (mark_at x.
     by false k = absurd (k.away refl)
 
 -- the name was seen on all bricks
-seen_whole : (w : Scoped) (looks : List Looked) (n : ℕ) (b : BrickNo) (x : Sight) (at : ℕ) (s t : Scene) → Sound t → at ≡ t.history.size → b.0 + 1 ≡ w.bricks → n < length w.names → AfterLook w looks n b x s t → IsLooked w.bricks (name_at w n) (record { sight = x; at = at }) t
+seen_whole :
+    (w : Scoped) (looks : List Looked) (n : ℕ) (b : BrickNo) (x : Sight) (at : ℕ) (s t : Scene)
+    → Sound t → at ≡ t.history.size → b.0 + 1 ≡ w.bricks → n < length w.names
+    → AfterLook w looks n b x s t
+    → IsLooked w.bricks (name_at w n) (record { sight = x; at = at }) t
 seen_whole w looks n b x at s t sound line last l a =
     let bricks = bricks_are w t sound a.fresh.scope in
     let all : b.0 + 1 ≡ t.disk.count = omega arith in
@@ -310,7 +369,10 @@ seen_whole w looks n b x at s t sound line last l a =
       };
     }
 
-looked_more : (w : Scoped) (looks : List Looked) (n : ℕ) (x : Looked) (t : Scene) → n < length looks → AllLooked w n looks t → IsLooked w.bricks (name_at w n) x t → AllLooked w (suc n) (with_looked looks n x) t
+looked_more :
+    (w : Scoped) (looks : List Looked) (n : ℕ) (x : Looked) (t : Scene) → n < length looks
+    → AllLooked w n looks t → IsLooked w.bricks (name_at w n) x t
+    → AllLooked w (suc n) (with_looked looks n x) t
 looked_more w looks n x t l h k j m = elim (nat_cases j n) [
   | inl q ↦ subst (λ (i : ℕ). IsLooked w.bricks (name_at w i) (looked_at (with_looked looks n x) i) t) (sym q)
       (subst (λ (y : Looked). IsLooked w.bricks (name_at w n) y t) (sym (set_there looks n x _ l)) k)
@@ -327,7 +389,12 @@ pub record AfterName (w : Scoped) (looks : List Looked) (n : ℕ) (t : Scene) : 
   pub room : length looks ≡ length w.names
   pub looked : AllLooked w (suc n) looks t
 
-after_name : (w : Scoped) (looks : List Looked) (n : ℕ) (b : BrickNo) (x : Sight) (r : Reply) (at : ℕ) (s t : Scene) → fault_of r ≡ None → shows_gone (name_at w n).0 b r ≡ false → nat_lt 1 (w.bricks - b.0) ≡ false → Served (section_stage (Looking w looks n b x)) r at s t → AfterName w (with_looked looks n (record { sight = sight_with w.bricks x b r; at = at })) n t
+after_name :
+    (w : Scoped) (looks : List Looked) (n : ℕ) (b : BrickNo) (x : Sight) (r : Reply) (at : ℕ)
+    (s t : Scene)
+    → fault_of r ≡ None → shows_gone (name_at w n).0 b r ≡ false → nat_lt 1 (w.bricks - b.0) ≡ false
+    → Served (section_stage (Looking w looks n b x)) r at s t
+    → AfterName w (with_looked looks n (record { sight = sight_with w.bricks x b r; at = at })) n t
 after_name w looks n b x r at s t z going e v =
     let h = v.is_at.knows in
     let a = after_look w looks n b x r at s t z going v in
@@ -342,7 +409,18 @@ after_name w looks n b x r at s t z going e v =
       looked = looked_more w looks n new t place a.looked (seen_whole w looks n b (sight_with w.bricks x b r) at s t v.after v.line (last_brick b.0 w.bricks h.within e) h.name a);
     }
 
-pub next_name : (w : Scoped) (looks : List Looked) (n next : ℕ) (b : BrickNo) (x : Sight) (r : Reply) (at : ℕ) (s t : Scene) → next ≡ suc n → fault_of r ≡ None → shows_gone (name_at w n).0 b r ≡ false → nat_lt 1 (w.bricks - b.0) ≡ false → nat_lt 1 (length w.names - n) ≡ true → Served (section_stage (Looking w looks n b x)) r at s t → GoesOn (section_stage (Looking w looks n b x)) (section_stage (Looking w (with_looked looks n (record { sight = sight_with w.bricks x b r; at = at })) next (record { 0 = 0 }) no_sight)) r t
+pub next_name :
+    (w : Scoped) (looks : List Looked) (n next : ℕ) (b : BrickNo) (x : Sight) (r : Reply) (at : ℕ)
+    (s t : Scene)
+    → next ≡ suc n → fault_of r ≡ None → shows_gone (name_at w n).0 b r ≡ false
+    → nat_lt 1 (w.bricks - b.0) ≡ false → nat_lt 1 (length w.names - n) ≡ true
+    → Served (section_stage (Looking w looks n b x)) r at s t
+    → GoesOn (section_stage (Looking w looks n b x))
+    (section_stage
+    (Looking w
+    (with_looked looks n (record { sight = sight_with w.bricks x b r; at = at }))
+    next (record { 0 = 0 }) no_sight))
+    r t
 next_name w looks n next b x r at s t i z going e k v =
     let h = v.is_at.knows in
     let a = after_name w looks n b x r at s t z going e v in
@@ -372,7 +450,22 @@ next_name w looks n next b x r at s t i z going e k v =
     }
 
 -- the last name
-pub looked_last : (w : Scoped) (looks : List Looked) (n : ℕ) (b : BrickNo) (x : Sight) (r : Reply) (at : ℕ) (s t : Scene) → fault_of r ≡ None → shows_gone (name_at w n).0 b r ≡ false → nat_lt 1 (w.bricks - b.0) ≡ false → nat_lt 1 (length w.names - n) ≡ false → Served (section_stage (Looking w looks n b x)) r at s t → EndsIn (section_stage (Looking w looks n b x)) (opened_ending (Holding (record { scope = w; looks = with_looked looks n (record { sight = sight_with w.bricks x b r; at = at }) }))) t
+pub looked_last :
+    (w : Scoped) (looks : List Looked) (n : ℕ) (b : BrickNo) (x : Sight) (r : Reply) (at : ℕ)
+    (s t : Scene)
+    → fault_of r ≡ None → shows_gone (name_at w n).0 b r ≡ false → nat_lt 1 (w.bricks - b.0) ≡ false
+    → nat_lt 1 (length w.names - n) ≡ false
+    → Served (section_stage (Looking w looks n b x)) r at s t
+    → EndsIn (section_stage (Looking w looks n b x))
+    (opened_ending
+    (Holding
+    (record {
+      scope = w;
+      looks =
+          with_looked looks n
+          (record { sight = sight_with w.bricks x b r; at = at });
+    })))
+    t
 looked_last w looks n b x r at s t z going e k v =
     let h = v.is_at.knows in
     let name = h.name in
@@ -391,7 +484,12 @@ looked_last w looks n b x r at s t z going e k v =
 
 -- ---- a look that ends it
 
-pub look_stopped : (w : Scoped) (looks : List Looked) (n : ℕ) (b : BrickNo) (x : Sight) (e : Errno) (r : Reply) (at : ℕ) (s t : Scene) → fault_of r ≡ Some e → Served (section_stage (Looking w looks n b x)) r at s t → GoesOn (section_stage (Looking w looks n b x)) (section_stage (Unlocking w (last_lock w) (Stopped e))) r t
+pub look_stopped :
+    (w : Scoped) (looks : List Looked) (n : ℕ) (b : BrickNo) (x : Sight) (e : Errno) (r : Reply)
+    (at : ℕ) (s t : Scene)
+    → fault_of r ≡ Some e → Served (section_stage (Looking w looks n b x)) r at s t
+    → GoesOn (section_stage (Looking w looks n b x))
+    (section_stage (Unlocking w (last_lock w) (Stopped e))) r t
 look_stopped w looks n b x e r at s t z v =
     let h = v.is_at.knows in
     let some = h.order.some in
@@ -412,12 +510,17 @@ pub both : (a b : Bool) → (a && b) ≡ true → (a ≡ true) × (b ≡ true)
 both true b h = (refl, h)
 both false b h = absurd (let z : false ≡ true = h in cc)
 
-no_record : (o : Option DirRecord) (c : Contents) (e : Entry) → is_nodir (look_reply o c e) ≡ true → o ≡ None
+no_record :
+    (o : Option DirRecord) (c : Contents) (e : Entry) → is_nodir (look_reply o c e) ≡ true
+    → o ≡ None
 no_record None c e h = refl
 no_record (Some x) c e h = absurd (let z : false ≡ true = h in cc)
 
 -- where the home of a directory has no record of it, it is no directory of the tree
-pub home_gone : (g : Gfid) (at : ℕ) (s t : Scene) (a : Ask) (r : Reply) → IsQuiet a.request → s.mine.deeds ≡ None → Sound s → Sound t → at ≡ t.history.size → dir_at s.disk (home g) g ≡ None → Guarantee s a r t → WasGone g at t
+pub home_gone :
+    (g : Gfid) (at : ℕ) (s t : Scene) (a : Ask) (r : Reply) → IsQuiet a.request
+    → s.mine.deeds ≡ None → Sound s → Sound t → at ≡ t.history.size
+    → dir_at s.disk (home g) g ≡ None → Guarantee s a r t → WasGone g at t
 home_gone g at s t a r quiet fresh before after line none m =
     let homed : s.history.tree.dirs g ≡ is_some (dir_at s.disk (home g) g) = (before.kept.things.dirs g).homed in
     let begun = after.begun in
@@ -430,7 +533,11 @@ home_gone g at s t a r quiet fresh before after line none m =
           ∙ (homed ∙ ap is_some none));
     }
 
-was_gone : (b : BrickNo) (at : ℕ) (r : Reply) (s t : Scene) (w : Scoped) (n : ℕ) → s.mine.deeds ≡ None → Sound s → Sound t → at ≡ t.history.size → fault_of r ≡ None → shows_gone (name_at w n).0 b r ≡ true → Guarantee s (look_ask w n b) r t → WasGone (name_at w n).0 at t
+was_gone :
+    (b : BrickNo) (at : ℕ) (r : Reply) (s t : Scene) (w : Scoped) (n : ℕ) → s.mine.deeds ≡ None
+    → Sound s → Sound t → at ≡ t.history.size → fault_of r ≡ None
+    → shows_gone (name_at w n).0 b r ≡ true → Guarantee s (look_ask w n b) r t
+    → WasGone (name_at w n).0 at t
 was_gone b at r s t w n fresh before after line z k m =
     let e = name_at w n in
     let q = both (is_nodir r) (nat_eq b.0 (home e.0)) k in
@@ -438,7 +545,13 @@ was_gone b at r s t w n fresh before after line z k m =
     let at_home : dir_at s.disk (home e.0) e.0 ≡ None = ap (λ (i : ℕ). dir_at s.disk i e.0) (sym ((exact_nat b.0 (home e.0)).0 q.1)) ∙ none in
     home_gone e.0 at s t _ r tt fresh before after line at_home m
 
-pub look_gone : (w : Scoped) (looks : List Looked) (n : ℕ) (b : BrickNo) (x : Sight) (r : Reply) (at : ℕ) (s t : Scene) → fault_of r ≡ None → shows_gone (name_at w n).0 b r ≡ true → Served (section_stage (Looking w looks n b x)) r at s t → GoesOn (section_stage (Looking w looks n b x)) (section_stage (Unlocking w (last_lock w) (Gone (name_at w n).0 at))) r t
+pub look_gone :
+    (w : Scoped) (looks : List Looked) (n : ℕ) (b : BrickNo) (x : Sight) (r : Reply) (at : ℕ)
+    (s t : Scene)
+    → fault_of r ≡ None → shows_gone (name_at w n).0 b r ≡ true
+    → Served (section_stage (Looking w looks n b x)) r at s t
+    → GoesOn (section_stage (Looking w looks n b x))
+    (section_stage (Unlocking w (last_lock w) (Gone (name_at w n).0 at))) r t
 look_gone w looks n b x r at s t z k v =
     let h = v.is_at.knows in
     let some = h.order.some in
@@ -456,5 +569,10 @@ look_gone w looks n b x r at s t z k v =
     }
 
 -- a look is always answered
-pub look_again : (w : Scoped) (looks : List Looked) (n : ℕ) (b : BrickNo) (x : Sight) (r : Reply) (at : ℕ) (s t : Scene) → fault_of r ≡ None → is_shown r ≡ false → Served (section_stage (Looking w looks n b x)) r at s t → GoesOn (section_stage (Looking w looks n b x)) (section_stage (Looking w looks n b x)) r t
+pub look_again :
+    (w : Scoped) (looks : List Looked) (n : ℕ) (b : BrickNo) (x : Sight) (r : Reply) (at : ℕ)
+    (s t : Scene)
+    → fault_of r ≡ None → is_shown r ≡ false
+    → Served (section_stage (Looking w looks n b x)) r at s t
+    → GoesOn (section_stage (Looking w looks n b x)) (section_stage (Looking w looks n b x)) r t
 look_again w looks n b x r at s t z k v = absurd (let q : true ≡ false = sym (look_answered (name_at w n) b s t r z v.moved) ∙ k in cc)

@@ -37,7 +37,10 @@ pub either_none : {A : Type 0} (o : Option A) → o ≡ either o None
 either_none None = refl
 either_none (Some x) = refl
 
-pub section_notes : (m : Section) (r : Reply) (o : Option Errno) → o ≡ fault_now m r → part_fault o ≡ either (part_fault (section_fault m)) (fault_for (section_stage m).asks.request r)
+pub section_notes :
+    (m : Section) (r : Reply) (o : Option Errno) → o ≡ fault_now m r
+    → part_fault o
+    ≡ either (part_fault (section_fault m)) (fault_for (section_stage m).asks.request r)
 section_notes (Locking w i looks) r o e = ap part_fault e ∙ fault_errors r
 section_notes (Looking w looks n b x) r o e = ap part_fault e ∙ fault_errors r
 section_notes (Unlocking w i x) r o e = ap part_fault e ∙ either_none (part_fault (unheld_fault x))
@@ -57,11 +60,15 @@ one_directory : (l : Location) (g : Gfid) → IsOfName (scope_at l) g → l.dire
 one_directory l g (zero, within, e) = e
 one_directory l g (suc n, within, e) = absurd (omega arith)
 
-pub gone_directory : (l : Location) (w : Scoped) (g : Gfid) → w ≡ scope_at l → IsOfName w g → l.directory ≡ g
+pub gone_directory :
+    (l : Location) (w : Scoped) (g : Gfid) → w ≡ scope_at l → IsOfName w g → l.directory ≡ g
 gone_directory l w g e h = one_directory l g (subst (λ (v : Scoped). IsOfName v g) e h)
 
 -- the tree refused the call at that line
-pub gone_earned : (d : Gfid) (call : Call Gfid) (g : Gfid) (at : ℕ) (s : Scene) → ((p : Tree) (x : Gfid) → p.dirs d ≡ false → answer_of (says p call x) ≡ Some (Fault Estale)) → s.mine.call ≡ call → d ≡ g → WasGone g at s → MayAnswer (gone_at at) s
+pub gone_earned :
+    (d : Gfid) (call : Call Gfid) (g : Gfid) (at : ℕ) (s : Scene)
+    → ((p : Tree) (x : Gfid) → p.dirs d ≡ false → answer_of (says p call x) ≡ Some (Fault Estale))
+    → s.mine.call ≡ call → d ≡ g → WasGone g at s → MayAnswer (gone_at at) s
 gone_earned d call g at s refuses is e h = record {
   point = at;
   printed = refl;

@@ -32,19 +32,31 @@ use Rattle.dht_section.specs.declared.section.Unheld.TheVariants.{Gone, Stopped}
 abbrev Went : Section → Reply → Scene → Turn Section Opened → Type 0
 Went m r t turn = MatchTurn turn (λ n. GoesOn (section_stage m) (section_stage n) r t) (λ d. EndsIn (section_stage m) (opened_ending d) t)
 
-either : (m : Section) (r : Reply) (t : Scene) (c : Bool) (x y : Turn Section Opened) → (c ≡ true → Went m r t x) → (c ≡ false → Went m r t y) → Went m r t (if c then x else y)
+either :
+    (m : Section) (r : Reply) (t : Scene) (c : Bool) (x y : Turn Section Opened)
+    → (c ≡ true → Went m r t x) → (c ≡ false → Went m r t y) → Went m r t (if c then x else y)
 either m r t true x y h k = h refl
 either m r t false x y h k = k refl
 
-faulty : (m : Section) (r : Reply) (t : Scene) (w : Scoped) (i : ℕ) (turn : Turn Section Opened) (o : Option Errno) → fault_of r ≡ o → ((e : Errno) → fault_of r ≡ Some e → Went m r t (Go (Unlocking w i (Stopped e)))) → (fault_of r ≡ None → Went m r t turn) → Went m r t (unless_fault o w i turn)
+faulty :
+    (m : Section) (r : Reply) (t : Scene) (w : Scoped) (i : ℕ) (turn : Turn Section Opened)
+    (o : Option Errno)
+    → fault_of r ≡ o
+    → ((e : Errno) → fault_of r ≡ Some e → Went m r t (Go (Unlocking w i (Stopped e))))
+    → (fault_of r ≡ None → Went m r t turn) → Went m r t (unless_fault o w i turn)
 faulty m r t w i turn None e stop go = go e
 faulty m r t w i turn (Some x) e stop go = stop x e
 
-ended : (w : Scoped) (i : ℕ) (x : Unheld) (r : Reply) (at : ℕ) (s t : Scene) → i ≡ 0 → Served (section_stage (Unlocking w i x)) r at s t → EndsIn (section_stage (Unlocking w i x)) (opened_ending (opened_as x)) t
+ended :
+    (w : Scoped) (i : ℕ) (x : Unheld) (r : Reply) (at : ℕ) (s t : Scene) → i ≡ 0
+    → Served (section_stage (Unlocking w i x)) r at s t
+    → EndsIn (section_stage (Unlocking w i x)) (opened_ending (opened_as x)) t
 ended w i (Gone g line) r at s t e v = record { claims = nothing_claimed w i (unheld_earned w (Gone g line)) e r at s t v; earned = (still_earned w i (unheld_earned w (Gone g line)) (unheld_moved w (Gone g line)) r at s t v).1 }
 ended w i (Stopped x) r at s t e v = record { claims = nothing_claimed w i (unheld_earned w (Stopped x)) e r at s t v; earned = still_earned w i (unheld_earned w (Stopped x)) (unheld_moved w (Stopped x)) r at s t v }
 
-pub section_moves : (m : Section) (r : Reply) (at : ℕ) → Moves section_stage opened_ending m r at (section_after m r at)
+pub section_moves :
+    (m : Section) (r : Reply) (at : ℕ)
+    → Moves section_stage opened_ending m r at (section_after m r at)
 section_moves (Locking w i looks) r at s t v = faulty (Locking w i looks) r t w i (lock_answered w i looks r) (fault_of r) refl
     (λ e z. lock_stopped w i looks e r at s t z v)
     (λ z. either (Locking w i looks) r t (is_carried (reply_kind r)) (locked w i looks) (Go (Locking w i looks))
@@ -71,11 +83,17 @@ section_moves (Unlocking w i x) r at s t v = either (Unlocking w i x) r t (nat_l
 
 -- ---- what it keeps, and what it notes
 
-pub either_turn : (P : Turn Section Opened → Type 0) (c : Bool) (x y : Turn Section Opened) → (c ≡ true → P x) → (c ≡ false → P y) → P (if c then x else y)
+pub either_turn :
+    (P : Turn Section Opened → Type 0) (c : Bool) (x y : Turn Section Opened) → (c ≡ true → P x)
+    → (c ≡ false → P y) → P (if c then x else y)
 either_turn P true x y h k = h refl
 either_turn P false x y h k = k refl
 
-pub unless_kept : (P : Turn Section Opened → Type 0) (w : Scoped) (i : ℕ) (turn : Turn Section Opened) (o r : Option Errno) → r ≡ o → ((e : Errno) → r ≡ Some e → P (Go (Unlocking w i (Stopped e)))) → (r ≡ None → P turn) → P (unless_fault o w i turn)
+pub unless_kept :
+    (P : Turn Section Opened → Type 0) (w : Scoped) (i : ℕ) (turn : Turn Section Opened)
+    (o r : Option Errno)
+    → r ≡ o → ((e : Errno) → r ≡ Some e → P (Go (Unlocking w i (Stopped e)))) → (r ≡ None → P turn)
+    → P (unless_fault o w i turn)
 unless_kept P w i turn None r e stop go = go e
 unless_kept P w i turn (Some x) r e stop go = stop x e
 
@@ -88,7 +106,20 @@ fault_opened (Gone g at) = refl
 fault_opened (Stopped e) = refl
 
 -- a fact of each turn
-turns : (m : Section) (r : Reply) (at : ℕ) (P : Turn Section Opened → Type 0) → ((e : Errno) (i : ℕ) → fault_of r ≡ Some e → P (Go (Unlocking (section_scope m) i (Stopped e)))) → (fault_of r ≡ None → (i : ℕ) (looks : List Looked) → P (Go (Locking (section_scope m) i looks))) → (fault_of r ≡ None → (looks : List Looked) (n : ℕ) (b : BrickNo) (x : Sight) → P (Go (Looking (section_scope m) looks n b x))) → (fault_of r ≡ None → (g : Gfid) (i : ℕ) → P (Go (Unlocking (section_scope m) i (Gone g at)))) → (fault_of r ≡ None → (looks : List Looked) → P (Done (Holding (record { scope = section_scope m; looks = looks })))) → ((i : ℕ) (x : Unheld) → m ≡ Unlocking (section_scope m) i x → ((j : ℕ) → P (Go (Unlocking (section_scope m) j x))) × P (Done (opened_as x))) → P (section_after m r at)
+turns :
+    (m : Section) (r : Reply) (at : ℕ) (P : Turn Section Opened → Type 0)
+    → ((e : Errno) (i : ℕ) → fault_of r ≡ Some e
+    → P (Go (Unlocking (section_scope m) i (Stopped e))))
+    → (fault_of r ≡ None → (i : ℕ) (looks : List Looked)
+    → P (Go (Locking (section_scope m) i looks)))
+    → (fault_of r ≡ None → (looks : List Looked) (n : ℕ) (b : BrickNo) (x : Sight)
+    → P (Go (Looking (section_scope m) looks n b x)))
+    → (fault_of r ≡ None → (g : Gfid) (i : ℕ) → P (Go (Unlocking (section_scope m) i (Gone g at))))
+    → (fault_of r ≡ None → (looks : List Looked)
+    → P (Done (Holding (record { scope = section_scope m; looks = looks }))))
+    → ((i : ℕ) (x : Unheld) → m ≡ Unlocking (section_scope m) i x
+    → ((j : ℕ) → P (Go (Unlocking (section_scope m) j x))) × P (Done (opened_as x)))
+    → P (section_after m r at)
 turns (Locking w i looks) r at P stop lock look gone done unlock = unless_kept P w i _ (fault_of r) (fault_of r) refl (λ e z. stop e i z)
     (λ z. either_turn P (is_carried (reply_kind r)) (locked w i looks) _
     (λ k. either_turn P (nat_lt 1 (length w.keys - i)) _ (all_locked w looks) (λ q. lock z (i + 1) looks)
@@ -106,11 +137,14 @@ pub keeps_scope : (m : Section) (r : Reply) (at : ℕ) → KeepsScope m (section
 keeps_scope m r at = turns m r at (KeepsScope m) (λ e i z. refl) (λ z i looks. refl) (λ z looks n b x. refl) (λ z g i. refl) (λ z looks. refl) (λ i x e. (λ j. refl, of_scope (section_scope m) x))
 
 -- a directory that was gone is that of one of the names
-gone_of_name : (w : Scoped) (x : Unheld) (s : Scene) → unheld_earned w x s → GoneOfName w (opened_as x)
+gone_of_name :
+    (w : Scoped) (x : Unheld) (s : Scene) → unheld_earned w x s → GoneOfName w (opened_as x)
 gone_of_name w (Gone g at) s h = h.0
 gone_of_name w (Stopped e) s h = tt
 
-pub names_gone : (m : Section) (r : Reply) (at : ℕ) (s : Scene) → (section_stage m).knows s → NamesGone m (section_after m r at)
+pub names_gone :
+    (m : Section) (r : Reply) (at : ℕ) (s : Scene) → (section_stage m).knows s
+    → NamesGone m (section_after m r at)
 names_gone (Locking w i looks) r at s h = turns (Locking w i looks) r at (NamesGone (Locking w i looks)) (λ e j z. tt) (λ z j k. tt) (λ z k n b x. tt) (λ z g j. tt) (λ z k. tt) (λ j x e. absurd (let z : Locking w i looks ≡ Unlocking w j x = e in cc))
 names_gone (Looking w looks n b x) r at s h = turns (Looking w looks n b x) r at (NamesGone (Looking w looks n b x)) (λ e j z. tt) (λ z j k. tt) (λ z k m c y. tt) (λ z g j. tt) (λ z k. tt) (λ j y e. absurd (let z : Looking w looks n b x ≡ Unlocking w j y = e in cc))
 names_gone (Unlocking w i x) r at s h = either_turn (NamesGone (Unlocking w i x)) (nat_lt 0 i) _ _ (λ e. tt) (λ e. gone_of_name w x s h.earned)
@@ -122,7 +156,10 @@ notes_fault (Unlocking w i x) r at = either_turn (NotesFault (Unlocking w i x) r
 
 -- ---- what is left before it is held
 
-more_than_unlocks : (m : Section) (s : Scene) → (section_stage m).knows s → ((w : Scoped) (i : ℕ) (x : Unheld) → m ≡ Unlocking w i x → ⊥) → suc (last_lock (section_scope m)) < (section_stage m).variant
+more_than_unlocks :
+    (m : Section) (s : Scene) → (section_stage m).knows s
+    → ((w : Scoped) (i : ℕ) (x : Unheld) → m ≡ Unlocking w i x → ⊥)
+    → suc (last_lock (section_scope m)) < (section_stage m).variant
 more_than_unlocks (Locking w i looks) s h other = let l = h.within in omega arith
 more_than_unlocks (Looking w looks n b x) s h other =
     let left = left_now w.bricks n (length w.names) h.name in
@@ -134,7 +171,9 @@ opened_outlasted : (m : Section) (x : Unheld) → Outlasts m (opened_as x)
 opened_outlasted m (Gone g at) = tt
 opened_outlasted m (Stopped e) = tt
 
-pub leaves_unlocks : (m : Section) (r : Reply) (at : ℕ) (s : Scene) → (section_stage m).knows s → LeavesUnlocks m (section_after m r at)
+pub leaves_unlocks :
+    (m : Section) (r : Reply) (at : ℕ) (s : Scene) → (section_stage m).knows s
+    → LeavesUnlocks m (section_after m r at)
 leaves_unlocks (Locking w i looks) r at s h = turns (Locking w i looks) r at (LeavesUnlocks (Locking w i looks)) (λ e j z. tt) (λ z j k. tt) (λ z k n b x. tt) (λ z g j. tt) (λ z k. more_than_unlocks (Locking w i looks) s h (λ v j x e. let q : Locking w i looks ≡ Unlocking v j x = e in cc)) (λ j x e. (λ n. tt, opened_outlasted (Locking w i looks) x))
 leaves_unlocks (Looking w looks n b x) r at s h = turns (Looking w looks n b x) r at (LeavesUnlocks (Looking w looks n b x)) (λ e j z. tt) (λ z j k. tt) (λ z k m c y. tt) (λ z g j. tt) (λ z k. more_than_unlocks (Looking w looks n b x) s h (λ v j y e. let q : Looking w looks n b x ≡ Unlocking v j y = e in cc)) (λ j y e. (λ i. tt, opened_outlasted (Looking w looks n b x) y))
 leaves_unlocks (Unlocking w i x) r at s h = either_turn (LeavesUnlocks (Unlocking w i x)) (nat_lt 0 i) _ _ (λ e. tt) (λ e. opened_outlasted (Unlocking w i x) x)

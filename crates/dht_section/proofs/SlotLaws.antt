@@ -67,7 +67,9 @@ tied Greater e = absurd (let z : false ≡ true = e in cc)
 apart : (x y : Entry) → y ≢ x → eq_by_cmp entry_cmp y x ≡ false
 apart x y ne = false_from_ne_true (eq_by_cmp entry_cmp y x) (λ e. ne (entry_exact y x (tied (entry_cmp y x) e)))
 
-pub slot_put_other : (slots : Slots) (x : Entry) (p : Slot) (y : Entry) → y ≢ x → slot_in (put_slot slots x p) y ≡ slot_in slots y
+pub slot_put_other :
+    (slots : Slots) (x : Entry) (p : Slot) (y : Entry) → y ≢ x
+    → slot_in (put_slot slots x p) y ≡ slot_in slots y
 slot_put_other slots x p y ne = by (is_bare p)
   where
     by : (v : Bool) → slot_in (if v then remove slots x else insert slots x p) y ≡ slot_in slots y
@@ -77,11 +79,17 @@ slot_put_other slots x p y ne = by (is_bare p)
 -- ---- the row
 
 -- what a request comes to that changes a slot where a test passes
-abbrev pub slot_outcome : NameRequest → Option DirRecord → Bool → Contents → Entry → Slot → Outcome Contents
+abbrev pub slot_outcome :
+    NameRequest → Option DirRecord → Bool → Contents → Entry → Slot → Outcome Contents
 slot_outcome q o v c e p = within (with_store c) (in_dir o (λ x. on_slot q c.store e (when v p)))
 
 -- it is carried out where the directory is there and the test passes
-pub slot_carried : (q : NameRequest) (o : Option DirRecord) (v : Bool) (c : Contents) (e : Entry) (p : Slot) → is_some o ≡ true → v ≡ true → slot_outcome q o v c e p ≡ Do (given_by q (beside q (with_slot c.store e p))) (with_store c (beside q (with_slot c.store e p)))
+pub slot_carried :
+    (q : NameRequest) (o : Option DirRecord) (v : Bool) (c : Contents) (e : Entry) (p : Slot)
+    → is_some o ≡ true → v ≡ true
+    → slot_outcome q o v c e p
+    ≡ Do (given_by q (beside q (with_slot c.store e p)))
+    (with_store c (beside q (with_slot c.store e p)))
 slot_carried q None v c e p there passes = absurd (let z : false ≡ true = there in cc)
 slot_carried q (Some x) true c e p there passes = refl
 slot_carried q (Some x) false c e p there passes = absurd (let z : false ≡ true = passes in cc)

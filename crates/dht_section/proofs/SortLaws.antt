@@ -28,7 +28,11 @@ tied Equal e = refl
 tied Greater e = absurd (let z : false ≡ true = e in cc)
 
 -- a list that was sorted, and from which repeats were dropped
-pub sorting : {A : Type 0} {R : A → A → Ordering} (o : IsTotalOrder R) (exact : (x y : A) → R x y ≡ Equal → x ≡ y) {E : A → A → Bool} (ties : (x y : A) → E x y ≡ eq_by_cmp R x y) (old sorted new : List A) → IsPermutation old sorted → IsSorted R sorted → new ≡ dedup E sorted → IsSorting R old new
+pub sorting :
+    {A : Type 0} {R : A → A → Ordering} (o : IsTotalOrder R)
+    (exact : (x y : A) → R x y ≡ Equal → x ≡ y) {E : A → A → Bool}
+    (ties : (x y : A) → E x y ≡ eq_by_cmp R x y) (old sorted new : List A)
+    → IsPermutation old sorted → IsSorted R sorted → new ≡ dedup E sorted → IsSorting R old new
 sorting {A} {R} o exact {E} ties old sorted new p up e = subst (IsSorting R old) (sym (e ∙ ap (λ (f : A → A → Bool). dedup f sorted) same)) (record {
   sorted = IsStrictlySortedBy-dedup o (λ x y. refl) sorted up;
   kept = λ x h. Contains-dedup (eq_by_cmp_equiv o) (λ a b q. exact a b (tied (R a b) q)) sorted x (Contains-permutation old sorted x p h);
@@ -43,7 +47,8 @@ keys_ranked old new h = subst (λ R. IsSorting R old new) rank_is h
 
 -- ---- the order of a scope
 
-contains_map : {A B : Type 0} (f : A → B) (xs : List A) (x : A) → Contains xs x → Contains (map f xs) (f x)
+contains_map :
+    {A B : Type 0} (f : A → B) (xs : List A) (x : A) → Contains xs x → Contains (map f xs) (f x)
 contains_map f xs x h = (h.0, subst (λ (n : ℕ). h.0 < n) (sym (length-map xs f)) h.1, get_or-map f xs h.0 x (f x) h.1 ∙ ap f h.2)
 
 -- a key of a list stands at some place
@@ -64,7 +69,8 @@ all_guards dirs names = All-append IsGuard (map dir_key dirs) (map name_key name
     (All-map IsGuard dir_key dirs (All-from_get_or (λ d. IsGuard (dir_key d)) dirs any_dir (λ i l. tt)))
     (All-map IsGuard name_key names (All-from_get_or (λ e. IsGuard (name_key e)) names any_name (λ i l. tt)))
 
-pub scope_ordered : (bricks : ℕ) (want : Wanted) (w : Scoped) → IsScope bricks want w → IsWhole want → IsOrdered w
+pub scope_ordered :
+    (bricks : ℕ) (want : Wanted) (w : Scoped) → IsScope bricks want w → IsWhole want → IsOrdered w
 scope_ordered bricks want w s h = record {
   some = (let k = s.locks.kept _ (Contains-append_left (map dir_key want.dirs) (map name_key want.names) _ (contains_map dir_key want.dirs _ (Contains-get_or want.dirs 0 any_dir h.some))) in let l = k.1 in omega arith);
   kinds = λ i l. All-contains IsGuard (keys_of want.dirs want.names) (key_at w i) (all_guards want.dirs want.names) (s.locks.none_added (key_at w i) (Contains-get_or w.keys i Rebalance l));

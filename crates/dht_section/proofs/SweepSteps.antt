@@ -61,10 +61,13 @@ abbrev pub Drops : Scene → Scene → ℕ → Entry → Type 0
 Drops s t b e = TakesSlot s t b e (without_main (slot_at s.disk b e))
 
 -- a brick that has a linkto has its directory
-linkto_bare : (s : Scene) (b : ℕ) (e : Entry) → linkto_there s.disk b e ≡ true → slot_at s.disk b e ≢ bare
+linkto_bare :
+    (s : Scene) (b : ℕ) (e : Entry) → linkto_there s.disk b e ≡ true → slot_at s.disk b e ≢ bare
 linkto_bare s b e h k = (let z : true ≡ false = sym h ∙ ap (λ (p : Slot). is_linkto p.main) k in cc)
 
-linkto_housed : (s : Scene) (b : ℕ) (e : Entry) → Sound s → b < s.disk.count → linkto_there s.disk b e ≡ true → is_some (dir_at s.disk b e.0) ≡ true
+linkto_housed :
+    (s : Scene) (b : ℕ) (e : Entry) → Sound s → b < s.disk.count → linkto_there s.disk b e ≡ true
+    → is_some (dir_at s.disk b e.0) ≡ true
 linkto_housed s b e sound there h = sound.kept.things.housed e b there (linkto_bare s b e h)
 
 -- a linkto that is there is dropped
@@ -83,13 +86,19 @@ no_step : (l : Location) (b : BrickNo) (r : Reply) → step_of b.0 (drop_ask l b
 no_step l b (reply.Ok g) = refl
 no_step l b r = refl
 
-pub drop_deeds : (l : Location) (b : BrickNo) (s t : Scene) (r : Reply) → Guarantee s (drop_ask l b) r t → t.mine.deeds ≡ s.mine.deeds
+pub drop_deeds :
+    (l : Location) (b : BrickNo) (s t : Scene) (r : Reply) → Guarantee s (drop_ask l b) r t
+    → t.mine.deeds ≡ s.mine.deeds
 drop_deeds l b s t r m = m.mine.deeds_are ∙ ap (λ (o : Option TreeStep). deeds_by s t.history.size o) (no_step l b m.real)
 
-drop_tree : (l : Location) (b : BrickNo) (s t : Scene) (r : Reply) → Guarantee s (drop_ask l b) r t → t.history.tree ≡ s.history.tree
+drop_tree :
+    (l : Location) (b : BrickNo) (s t : Scene) (r : Reply) → Guarantee s (drop_ask l b) r t
+    → t.history.tree ≡ s.history.tree
 drop_tree l b s t r m = m.tree ∙ ap (λ (o : Option TreeStep). tree_by o s.history.tree) (no_step l b m.real)
 
-drop_holds : (l : Location) (b : BrickNo) (s t : Scene) (r : Reply) (e : Entry) → Guarantee s (drop_ask l b) r t → HoldsName s e → HoldsName t e
+drop_holds :
+    (l : Location) (b : BrickNo) (s t : Scene) (r : Reply) (e : Entry)
+    → Guarantee s (drop_ask l b) r t → HoldsName s e → HoldsName t e
 drop_holds l b s t r e m h = record {
   name = lock_moved s t (drop_ask l b) r m e.0 (NameKey e.0 e.1) tt ∙ h.name;
   dir = ap is_some (lock_moved s t (drop_ask l b) r m e.0 (DirKey e.0) tt) ∙ h.dir;
@@ -109,7 +118,10 @@ linkto_links f (Some (File g over)) e = absurd (let k : false ≡ true = e in cc
 linkto_links f (Some (ALinkto v)) e = refl
 
 -- what of a slot does not see a linkto stays
-slot_fact : {X : Type 0} (f : Slot → X) (s t : Scene) (b : ℕ) (e : Entry) → Drops s t b e → f (without_main (slot_at s.disk b e)) ≡ f (slot_at s.disk b e) → (i : ℕ) (x : Entry) → f (slot_at t.disk i x) ≡ f (slot_at s.disk i x)
+slot_fact :
+    {X : Type 0} (f : Slot → X) (s t : Scene) (b : ℕ) (e : Entry) → Drops s t b e
+    → f (without_main (slot_at s.disk b e)) ≡ f (slot_at s.disk b e) → (i : ℕ) (x : Entry)
+    → f (slot_at t.disk i x) ≡ f (slot_at s.disk i x)
 slot_fact f s t b e d same i x = elim (entry_cases x e) [
   | inl q ↦ elim (nat_cases i b) [
     | inl k ↦ ap (λ (j : ℕ). f (slot_at t.disk j x)) k ∙ (ap (λ (y : Entry). f (slot_at t.disk b y)) q ∙ (ap f d.here ∙ (same ∙ (ap (λ (y : Entry). f (slot_at s.disk b y)) (sym q) ∙ ap (λ (j : ℕ). f (slot_at s.disk j x)) (sym k)))))
@@ -118,11 +130,16 @@ slot_fact f s t b e d same i x = elim (entry_cases x e) [
   | inr ne ↦ ap f (d.others i x ne)
 ]
 
-drop_core : (s t : Scene) (b : ℕ) (e : Entry) → linkto_there s.disk b e ≡ true → Drops s t b e → (i : ℕ) (x : Entry) → core (slot_at t.disk i x) ≡ core (slot_at s.disk i x)
+drop_core :
+    (s t : Scene) (b : ℕ) (e : Entry) → linkto_there s.disk b e ≡ true → Drops s t b e
+    → (i : ℕ) (x : Entry) → core (slot_at t.disk i x) ≡ core (slot_at s.disk i x)
 drop_core s t b e has d = slot_fact core s t b e d (ap (λ (m : Option Main). let p : Slot = record { main = m; standby = (slot_at s.disk b e).standby } in p) (linkto_visible (slot_at s.disk b e).main has))
 
 -- each name stands as it did
-drop_stands : (l : Location) (b : BrickNo) (s t : Scene) (r : Reply) (e : Entry) (h : NameShape) → linkto_there s.disk b.0 (entry_at l) ≡ true → Drops s t b.0 (entry_at l) → Guarantee s (drop_ask l b) r t → NameStands s e h → NameStands t e h
+drop_stands :
+    (l : Location) (b : BrickNo) (s t : Scene) (r : Reply) (e : Entry) (h : NameShape)
+    → linkto_there s.disk b.0 (entry_at l) ≡ true → Drops s t b.0 (entry_at l)
+    → Guarantee s (drop_ask l b) r t → NameStands s e h → NameStands t e h
 drop_stands l b s t r e h has d m k = record {
   fits = subst (λ (n : ℕ). NameFits n h) (sym m.disk.count) k.fits;
   has = λ i w. drop_core s t b.0 (entry_at l) has d i e ∙ k.has i (let c = m.disk.count in omega arith);
@@ -130,7 +147,10 @@ drop_stands l b s t r e h has d m k = record {
 }
 
 -- a file without names has none still
-drop_used : (l : Location) (b : BrickNo) (s t : Scene) (r : Reply) (f : Gfid) → Drops s t b.0 (entry_at l) → Guarantee s (drop_ask l b) r t → IsFileUsed s.disk s.history.tree f → IsFileUsed t.disk t.history.tree f
+drop_used :
+    (l : Location) (b : BrickNo) (s t : Scene) (r : Reply) (f : Gfid) → Drops s t b.0 (entry_at l)
+    → Guarantee s (drop_ask l b) r t → IsFileUsed s.disk s.history.tree f
+    → IsFileUsed t.disk t.history.tree f
 drop_used l b s t r f d m (ByBytes h) = ByBytes (λ q. h (ap (λ (x : Tree). x.bytes f) (sym (drop_tree l b s t r m)) ∙ q))
 drop_used l b s t r f d m (ByRecord i rec w e) = ByRecord i rec (let c = m.disk.count in omega arith) (d.files i f ∙ e)
 drop_used l b s t r f d m (BySeal h) = BySeal (sealed_still ∙ h)
@@ -138,7 +158,11 @@ drop_used l b s t r f d m (BySeal h) = BySeal (sealed_still ∙ h)
     sealed_still : (view_of t.disk f).sealed ≡ (view_of s.disk f).sealed
     sealed_still = ap (λ (n : ℕ). is_sealed (t.disk.brick (anchor f n)).opens f) m.disk.count ∙ ap (λ o. is_sealed o f) (d.opens (anchor f s.disk.count))
 
-drop_nameless : (l : Location) (b : BrickNo) (s t : Scene) (r : Reply) (f : Gfid) → linkto_there s.disk b.0 (entry_at l) ≡ true → Drops s t b.0 (entry_at l) → Guarantee s (drop_ask l b) r t → IsNameless s.disk s.history.tree f → IsNameless t.disk t.history.tree f
+drop_nameless :
+    (l : Location) (b : BrickNo) (s t : Scene) (r : Reply) (f : Gfid)
+    → linkto_there s.disk b.0 (entry_at l) ≡ true → Drops s t b.0 (entry_at l)
+    → Guarantee s (drop_ask l b) r t → IsNameless s.disk s.history.tree f
+    → IsNameless t.disk t.history.tree f
 drop_nameless l b s t r f has d m h =
     let c = m.disk.count in
     record {
@@ -148,7 +172,9 @@ drop_nameless l b s t r f has d m h =
     }
 
 -- what a section that is held knows beside linktos
-drop_kept : (l : Location) (b : BrickNo) (h : Held) (s t : Scene) (r : Reply) → Drops s t b.0 (entry_at l) → Guarantee s (drop_ask l b) r t → IsKept l h s → IsKept l h t
+drop_kept :
+    (l : Location) (b : BrickNo) (h : Held) (s t : Scene) (r : Reply) → Drops s t b.0 (entry_at l)
+    → Guarantee s (drop_ask l b) r t → IsKept l h s → IsKept l h t
 drop_kept l b h s t r d m k = record {
   order = k.order;
   fresh = record { scope = scope_moved h.scope s t _ r k.fresh.scope m; deeds = drop_deeds l b s t r m ∙ k.fresh.deeds };
@@ -181,7 +207,10 @@ next_up b i l ne = by (nat_lt b i) refl
     by true e = grind (arith, nat_tests, e)
     by false e = absurd (ne (grind (arith, nat_tests, e, l)))
 
-first_more : (linktos : List Linkto) (b bricks : ℕ) (o : Option BrickNo) → has_linkto (linkto_at linktos b) ≡ false → FirstFrom linktos (suc b) bricks o → FirstFrom linktos b bricks o
+first_more :
+    (linktos : List Linkto) (b bricks : ℕ) (o : Option BrickNo)
+    → has_linkto (linkto_at linktos b) ≡ false → FirstFrom linktos (suc b) bricks o
+    → FirstFrom linktos b bricks o
 first_more linktos b bricks None e h = λ i l k. elim (nat_cases i b) [
   | inl q ↦ ap (λ (j : ℕ). has_linkto (linkto_at linktos j)) q ∙ e
   | inr ne ↦ h i (next_up b i l ne) k
@@ -196,7 +225,9 @@ first_more linktos b bricks (Some x) e h = record {
   ];
 }
 
-first_found : (linktos : List Linkto) (b more bricks : ℕ) → b + more ≡ bricks → FirstFrom linktos b bricks (first_from linktos b more)
+first_found :
+    (linktos : List Linkto) (b more bricks : ℕ) → b + more ≡ bricks
+    → FirstFrom linktos b bricks (first_from linktos b more)
 unfolding first_from
 first_found linktos b zero bricks e = λ i l k. absurd (omega arith)
 first_found linktos b (suc more) bricks e = by (has_linkto (linkto_at linktos b)) refl (first_found linktos (suc b) more bricks (omega arith))
@@ -205,17 +236,25 @@ first_found linktos b (suc more) bricks e = by (has_linkto (linkto_at linktos b)
     by true q h = record { above = omega arith; below = omega arith; seen = q; none = λ i l k. absurd (omega arith) }
     by false q h = first_more linktos b bricks (first_from linktos (suc b) more) q h
 
-next_found : (bricks : ℕ) (linktos : List Linkto) (limit : ℕ) → limit ≤ bricks → FirstFrom linktos limit bricks (next_linkto bricks linktos limit)
+next_found :
+    (bricks : ℕ) (linktos : List Linkto) (limit : ℕ) → limit ≤ bricks
+    → FirstFrom linktos limit bricks (next_linkto bricks linktos limit)
 next_found bricks linktos limit l = first_found linktos limit (bricks - limit) bricks (omega arith)
 
 -- the next linkto is on this brick, or above it, or there is none
-pub first_here : (bricks : ℕ) (linktos : List Linkto) (b : ℕ) → b < bricks → has_linkto (linkto_at linktos b) ≡ true → next_linkto bricks linktos b ≡ Some (record { 0 = b })
+pub first_here :
+    (bricks : ℕ) (linktos : List Linkto) (b : ℕ) → b < bricks
+    → has_linkto (linkto_at linktos b) ≡ true
+    → next_linkto bricks linktos b ≡ Some (record { 0 = b })
 unfolding first_from
 first_here bricks linktos b l e =
     let n : bricks - b ≡ suc (bricks - (b + 1)) = omega arith in
     ap (first_from linktos b) n ∙ ap (λ (v : Bool). if v then Some (record { 0 = b }) else first_from linktos (suc b) (bricks - (b + 1))) e
 
-pub first_above : (bricks : ℕ) (linktos : List Linkto) (b : ℕ) → b < bricks → has_linkto (linkto_at linktos b) ≡ false → next_linkto bricks linktos b ≡ next_linkto bricks linktos (b + 1)
+pub first_above :
+    (bricks : ℕ) (linktos : List Linkto) (b : ℕ) → b < bricks
+    → has_linkto (linkto_at linktos b) ≡ false
+    → next_linkto bricks linktos b ≡ next_linkto bricks linktos (b + 1)
 unfolding first_from
 first_above bricks linktos b l e =
     let n : bricks - b ≡ suc (bricks - (b + 1)) = omega arith in
@@ -224,12 +263,15 @@ first_above bricks linktos b l e =
     ∙ (ap (λ (v : Bool). if v then Some (record { 0 = b }) else first_from linktos (suc b) (bricks - (b + 1))) e
     ∙ ap (λ (i : ℕ). first_from linktos i (bricks - (b + 1))) q)
 
-pub first_past : (bricks : ℕ) (linktos : List Linkto) (b : ℕ) → bricks ≤ b → next_linkto bricks linktos b ≡ None
+pub first_past :
+    (bricks : ℕ) (linktos : List Linkto) (b : ℕ) → bricks ≤ b → next_linkto bricks linktos b ≡ None
 unfolding first_from
 first_past bricks linktos b l = (let n : bricks - b ≡ 0 = omega arith in ap (first_from linktos b) n)
 
 -- what is left from a limit on is left from the first linkto on, and nothing is where there is none
-left_same : (linktos : List Linkto) (limit bricks i : ℕ) (b : BrickNo) → IsFirst linktos limit bricks b → i < bricks → is_left linktos limit i ≡ is_left linktos b.0 i
+left_same :
+    (linktos : List Linkto) (limit bricks i : ℕ) (b : BrickNo) → IsFirst linktos limit bricks b
+    → i < bricks → is_left linktos limit i ≡ is_left linktos b.0 i
 left_same linktos limit bricks i b h l = by (nat_lt i limit) (nat_lt i b.0) refl refl
   where
     by : (v w : Bool) → nat_lt i limit ≡ v → nat_lt i b.0 ≡ w → (if v then false else has_linkto (linkto_at linktos i)) ≡ (if w then false else has_linkto (linkto_at linktos i))
@@ -238,7 +280,9 @@ left_same linktos limit bricks i b h l = by (nat_lt i limit) (nat_lt i b.0) refl
     by false true e k = h.none i (grind (arith, nat_tests, e)) (grind (arith, nat_tests, k))
     by false false e k = refl
 
-left_none : (linktos : List Linkto) (limit bricks i : ℕ) → NoneFrom linktos limit bricks → i < bricks → is_left linktos limit i ≡ false
+left_none :
+    (linktos : List Linkto) (limit bricks i : ℕ) → NoneFrom linktos limit bricks → i < bricks
+    → is_left linktos limit i ≡ false
 left_none linktos limit bricks i h l = by (nat_lt i limit) refl
   where
     by : (v : Bool) → nat_lt i limit ≡ v → (if v then false else has_linkto (linkto_at linktos i)) ≡ false
@@ -249,7 +293,11 @@ left_none linktos limit bricks i h l = by (nat_lt i limit) refl
 abbrev pub GoesFrom : Location → Option Place → List Linkto → Option BrickNo → Scene → Type 0
 GoesFrom l found linktos o s = MatchOption o (IsSwept l found s) (λ b. Sweeps found (record { location = l; linktos = linktos; brick = b }) s)
 
-goes_by : (l : Location) (found : Option Place) (linktos : List Linkto) (limit : ℕ) (o : Option BrickNo) (s : Scene) → IsLeft l found linktos limit s → FirstFrom linktos limit l.bricks o → GoesFrom l found linktos o s
+goes_by :
+    (l : Location) (found : Option Place) (linktos : List Linkto) (limit : ℕ) (o : Option BrickNo)
+    (s : Scene)
+    → IsLeft l found linktos limit s → FirstFrom linktos limit l.bricks o
+    → GoesFrom l found linktos o s
 goes_by l found linktos limit None s h f = record {
   bricks = h.bricks;
   holds = h.holds;
@@ -264,7 +312,10 @@ goes_by l found linktos limit (Some x) s h f = record {
 
 -- ---- its beginning
 
-pub sweep_begins : (l : Location) (h : Held) (found : Option Place) (s : Scene) → IsLeft l found (held_looked h (entry_at l)).sight.linktos 0 s → MatchOption (first_sweep l h) (IsSwept l found s) (λ x. Sweeps found x s)
+pub sweep_begins :
+    (l : Location) (h : Held) (found : Option Place) (s : Scene)
+    → IsLeft l found (held_looked h (entry_at l)).sight.linktos 0 s
+    → MatchOption (first_sweep l h) (IsSwept l found s) (λ x. Sweeps found x s)
 sweep_begins l h found s k = by (next_linkto l.bricks linktos 0) (goes_by l found linktos 0 (next_linkto l.bricks linktos 0) s k (next_found l.bricks linktos 0 (omega arith)))
   where
     linktos : List Linkto
@@ -275,7 +326,11 @@ sweep_begins l h found s k = by (next_linkto l.bricks linktos 0) (goes_by l foun
     by (Some b) w = w
 
 -- by what was seen and the first brick with a linkto
-pub first_knows : (l : Location) (h : Held) (x : Looked) (o : Option BrickNo) (found : Option Place) (s : Scene) → x ≡ held_looked h (entry_at l) → o ≡ next_linkto l.bricks x.sight.linktos 0 → IsLeft l found (seen_linktos l h) 0 s → MatchOption (sweep_at l x.sight.linktos o) (IsSwept l found s) (λ y. Sweeps found y s)
+pub first_knows :
+    (l : Location) (h : Held) (x : Looked) (o : Option BrickNo) (found : Option Place) (s : Scene)
+    → x ≡ held_looked h (entry_at l) → o ≡ next_linkto l.bricks x.sight.linktos 0
+    → IsLeft l found (seen_linktos l h) 0 s
+    → MatchOption (sweep_at l x.sight.linktos o) (IsSwept l found s) (λ y. Sweeps found y s)
 first_knows l h x o found s e k w =
     subst (λ (b : Option BrickNo). MatchOption (sweep_at l x.sight.linktos b) (IsSwept l found s) (λ y. Sweeps found y s)) (sym k)
     (subst (λ (z : Looked). MatchOption (sweep_at l z.sight.linktos (next_linkto l.bricks z.sight.linktos 0)) (IsSwept l found s) (λ y. Sweeps found y s)) (sym e) (sweep_begins l h found s w))
@@ -283,27 +338,45 @@ first_knows l h x o found s e k w =
 -- ---- its steps
 
 -- the linkto on its brick is there
-sweeps_there : (found : Option Place) (x : Sweep) (s : Scene) → Sweeps found x s → linkto_there s.disk x.brick.0 (entry_at x.location) ≡ true
+sweeps_there :
+    (found : Option Place) (x : Sweep) (s : Scene) → Sweeps found x s
+    → linkto_there s.disk x.brick.0 (entry_at x.location) ≡ true
 sweeps_there found x s h = h.name.left x.brick.0 h.there ∙ (ap (λ (v : Bool). if v then false else has_linkto (linkto_at x.linktos x.brick.0)) (let e : nat_lt x.brick.0 x.brick.0 ≡ false = grind (arith, nat_tests) in e) ∙ h.seen)
 
-sweeps_within : (found : Option Place) (x : Sweep) (s : Scene) → Sweeps found x s → x.brick.0 < s.disk.count
+sweeps_within :
+    (found : Option Place) (x : Sweep) (s : Scene) → Sweeps found x s → x.brick.0 < s.disk.count
 sweeps_within found x s h = let l = h.there in let c = h.name.bricks in omega arith
 
 -- what a sweep's request leaves
-pub sweep_drops : (found : Option Place) (x : Sweep) (s t : Scene) (r : Reply) → Sound s → Sweeps found x s → fault_of r ≡ None → Guarantee s (drop_ask x.location x.brick) r t → Drops s t x.brick.0 (entry_at x.location)
+pub sweep_drops :
+    (found : Option Place) (x : Sweep) (s t : Scene) (r : Reply) → Sound s → Sweeps found x s
+    → fault_of r ≡ None → Guarantee s (drop_ask x.location x.brick) r t
+    → Drops s t x.brick.0 (entry_at x.location)
 sweep_drops found x s t r sound h z m = drop_leaves x.location x.brick s t r sound (sweeps_within found x s h) (sweeps_there found x s h) z m
 
-pub sweep_carried : (found : Option Place) (x : Sweep) (s t : Scene) (r : Reply) → Sound s → Sweeps found x s → fault_of r ≡ None → Guarantee s (drop_ask x.location x.brick) r t → is_carried (reply_kind r) ≡ true
+pub sweep_carried :
+    (found : Option Place) (x : Sweep) (s t : Scene) (r : Reply) → Sound s → Sweeps found x s
+    → fault_of r ≡ None → Guarantee s (drop_ask x.location x.brick) r t
+    → is_carried (reply_kind r) ≡ true
 sweep_carried found x s t r sound h z m = ap (λ (y : Reply). is_carried (reply_kind y)) (drop_reply x.location x.brick s t r sound (sweeps_within found x s h) (sweeps_there found x s h) z m)
 
-pub sweep_nameless : (found : Option Place) (x : Sweep) (s t : Scene) (r : Reply) (f : Gfid) → Sound s → Sweeps found x s → fault_of r ≡ None → Guarantee s (drop_ask x.location x.brick) r t → IsNameless s.disk s.history.tree f → IsNameless t.disk t.history.tree f
+pub sweep_nameless :
+    (found : Option Place) (x : Sweep) (s t : Scene) (r : Reply) (f : Gfid) → Sound s
+    → Sweeps found x s → fault_of r ≡ None → Guarantee s (drop_ask x.location x.brick) r t
+    → IsNameless s.disk s.history.tree f → IsNameless t.disk t.history.tree f
 sweep_nameless found x s t r f sound h z m k = drop_nameless x.location x.brick s t r f (sweeps_there found x s h) (sweep_drops found x s t r sound h z m) m k
 
-pub sweep_kept : (found : Option Place) (x : Sweep) (h : Held) (s t : Scene) (r : Reply) → Sound s → Sweeps found x s → fault_of r ≡ None → Guarantee s (drop_ask x.location x.brick) r t → IsKept x.location h s → IsKept x.location h t
+pub sweep_kept :
+    (found : Option Place) (x : Sweep) (h : Held) (s t : Scene) (r : Reply) → Sound s
+    → Sweeps found x s → fault_of r ≡ None → Guarantee s (drop_ask x.location x.brick) r t
+    → IsKept x.location h s → IsKept x.location h t
 sweep_kept found x h s t r sound w z m k = drop_kept x.location x.brick h s t r (sweep_drops found x s t r sound w z m) m k
 
 -- the linktos above its brick are left
-left_after : (found : Option Place) (x : Sweep) (s t : Scene) (r : Reply) → Sound s → Sweeps found x s → fault_of r ≡ None → Guarantee s (drop_ask x.location x.brick) r t → IsLeft x.location found x.linktos (x.brick.0 + 1) t
+left_after :
+    (found : Option Place) (x : Sweep) (s t : Scene) (r : Reply) → Sound s → Sweeps found x s
+    → fault_of r ≡ None → Guarantee s (drop_ask x.location x.brick) r t
+    → IsLeft x.location found x.linktos (x.brick.0 + 1) t
 left_after found x s t r sound h z m = record {
   bricks = m.disk.count ∙ h.name.bricks;
   holds = drop_holds x.location x.brick s t r (entry_at x.location) m h.name.holds;
@@ -363,32 +436,42 @@ module _ (locks : List Lock) (found : Option Place) where
   sweep_moves x r at s t v = unless_steps x r at s t (fault_of r) refl v
 
 -- under no locks it says less of its end
-lone_turn : (x : Sweep) (r : Reply) (t : Scene) (turn : Turn Sweep (Option Errno)) → Went [] None x r t turn → MatchTurn turn (λ n. GoesOn (lone_sweep x) (lone_sweep n) r t) (λ d. EndsIn (lone_sweep x) (lone_swept d) t)
+lone_turn :
+    (x : Sweep) (r : Reply) (t : Scene) (turn : Turn Sweep (Option Errno)) → Went [] None x r t turn
+    → MatchTurn turn (λ n. GoesOn (lone_sweep x) (lone_sweep n) r t)
+    (λ d. EndsIn (lone_sweep x) (lone_swept d) t)
 lone_turn x r t (Go n) h = h
 lone_turn x r t (Done None) h = record { claims = h.claims; earned = tt }
 lone_turn x r t (Done (Some e)) h = record { claims = h.claims; earned = h.earned }
 
-pub lone_moves : (x : Sweep) (r : Reply) (at : ℕ) → Moves lone_sweep lone_swept x r at (sweep_after x r)
+pub lone_moves :
+    (x : Sweep) (r : Reply) (at : ℕ) → Moves lone_sweep lone_swept x r at (sweep_after x r)
 lone_moves x r at s t v = lone_turn x r t (sweep_after x r) (sweep_moves [] None x r at s t v)
 
 -- ---- what it notes, and what it sends again
 
-next_noted : (x : Sweep) (r : Reply) (o : Option BrickNo) → fault_of r ≡ None → EndsByFault r (swept_to x o)
+next_noted :
+    (x : Sweep) (r : Reply) (o : Option BrickNo) → fault_of r ≡ None → EndsByFault r (swept_to x o)
 next_noted x r None z = sym z
 next_noted x r (Some b) z = z
 
-carried_noted : (x : Sweep) (r : Reply) (b : Bool) → fault_of r ≡ None → EndsByFault r (if b then swept_to x (sweep_next x) else Go x)
+carried_noted :
+    (x : Sweep) (r : Reply) (b : Bool) → fault_of r ≡ None
+    → EndsByFault r (if b then swept_to x (sweep_next x) else Go x)
 carried_noted x r true z = next_noted x r (sweep_next x) z
 carried_noted x r false z = z
 
-noted_by : (x : Sweep) (r : Reply) (o : Option Errno) → fault_of r ≡ o → EndsByFault r (sweep_unless o x r)
+noted_by :
+    (x : Sweep) (r : Reply) (o : Option Errno) → fault_of r ≡ o → EndsByFault r (sweep_unless o x r)
 noted_by x r None z = carried_noted x r (is_carried (reply_kind r)) z
 noted_by x r (Some e) z = sym z
 
 pub sweep_noted : (x : Sweep) (r : Reply) → EndsByFault r (sweep_after x r)
 sweep_noted x r = noted_by x r (fault_of r) refl
 
-pub sweep_again : (locks : List Lock) (found : Option Place) (x : Sweep) (r : Reply) → IsUnanswered (sweep_stage locks found x) r → sweep_after x r ≡ Go x
+pub sweep_again :
+    (locks : List Lock) (found : Option Place) (x : Sweep) (r : Reply)
+    → IsUnanswered (sweep_stage locks found x) r → sweep_after x r ≡ Go x
 sweep_again locks found x r h = ap (λ (o : Option Errno). sweep_unless o x r) h.0 ∙ ap (λ (b : Bool). if b then swept_to x (sweep_next x) else Go x) h.1
 
 -- it stays a sweep of the same name
@@ -399,7 +482,8 @@ next_same : (x : Sweep) (o : Option BrickNo) → KeepsLocation x (swept_to x o)
 next_same x None = tt
 next_same x (Some b) = refl
 
-carried_same : (x : Sweep) (b : Bool) → KeepsLocation x (if b then swept_to x (sweep_next x) else Go x)
+carried_same :
+    (x : Sweep) (b : Bool) → KeepsLocation x (if b then swept_to x (sweep_next x) else Go x)
 carried_same x true = next_same x (sweep_next x)
 carried_same x false = refl
 

@@ -22,7 +22,10 @@ abbrev seen_at : Sight → ℕ → Looked
 seen_at x at = record { sight = x; at = at }
 
 -- what was seen of a name is the same at another line
-sight_at : (looks : List Looked) (n j : ℕ) (x : Sight) (a b : ℕ) → (looked_at (with_looked looks n (seen_at x a)) j).sight ≡ (looked_at (with_looked looks n (seen_at x b)) j).sight
+sight_at :
+    (looks : List Looked) (n j : ℕ) (x : Sight) (a b : ℕ)
+    → (looked_at (with_looked looks n (seen_at x a)) j).sight
+    ≡ (looked_at (with_looked looks n (seen_at x b)) j).sight
 sight_at looks n j x a b = by (nat_lt n (length looks)) refl
   where
     at_place : n < length looks → (i : ℕ) → j ≡ n → (looked_at (slice_set looks n (seen_at x i)) j).sight ≡ x
@@ -35,19 +38,30 @@ sight_at looks n j x a b = by (nat_lt n (length looks)) refl
       | inr ne ↦ ap (λ (y : Looked). y.sight) (get_or-set_other looks n j (seen_at x a) not_looked ne ∙ sym (get_or-set_other looks n j (seen_at x b) not_looked ne))
     ]
 
-layout_at : (o : Option ℕ) (looks : List Looked) (n : ℕ) (x : Sight) (a b : ℕ) → (looked_of o (with_looked looks n (seen_at x a))).sight.layout ≡ (looked_of o (with_looked looks n (seen_at x b))).sight.layout
+layout_at :
+    (o : Option ℕ) (looks : List Looked) (n : ℕ) (x : Sight) (a b : ℕ)
+    → (looked_of o (with_looked looks n (seen_at x a))).sight.layout
+    ≡ (looked_of o (with_looked looks n (seen_at x b))).sight.layout
 layout_at None looks n x a b = refl
 layout_at (Some j) looks n x a b = ap (λ (y : Sight). y.layout) (sight_at looks n j x a b)
 
-either_same : (e : Entry) (c : Bool) (x y z w : Turn Section Opened) → turn_layout e x ≡ turn_layout e z → turn_layout e y ≡ turn_layout e w → turn_layout e (if c then x else y) ≡ turn_layout e (if c then z else w)
+either_same :
+    (e : Entry) (c : Bool) (x y z w : Turn Section Opened) → turn_layout e x ≡ turn_layout e z
+    → turn_layout e y ≡ turn_layout e w
+    → turn_layout e (if c then x else y) ≡ turn_layout e (if c then z else w)
 either_same e true x y z w h k = h
 either_same e false x y z w h k = k
 
-fault_same : (e : Entry) (o : Option Errno) (w : Scoped) (i : ℕ) (x y : Turn Section Opened) → turn_layout e x ≡ turn_layout e y → turn_layout e (unless_fault o w i x) ≡ turn_layout e (unless_fault o w i y)
+fault_same :
+    (e : Entry) (o : Option Errno) (w : Scoped) (i : ℕ) (x y : Turn Section Opened)
+    → turn_layout e x ≡ turn_layout e y
+    → turn_layout e (unless_fault o w i x) ≡ turn_layout e (unless_fault o w i y)
 fault_same e None w i x y h = h
 fault_same e (Some errno) w i x y h = refl
 
-pub taught_at : (e : Entry) (m : Section) (r : Reply) (a b : ℕ) → turn_layout e (section_after m r a) ≡ turn_layout e (section_after m r b)
+pub taught_at :
+    (e : Entry) (m : Section) (r : Reply) (a b : ℕ)
+    → turn_layout e (section_after m r a) ≡ turn_layout e (section_after m r b)
 taught_at e (Locking w i looks) r a b = refl
 taught_at e (Looking w looks n c x) r a b = fault_same e (fault_of r) w (last_lock w) _ _
     (either_same e (shows_gone (name_at w n).0 c r) _ _ _ _ refl

@@ -14,18 +14,32 @@ use Rattle.dht_section.specs.Stages.{Served, GoesOn, MayClaimNext}
 use Rattle.dht_section.specs.Want.{Scoped, key_at, lock_brick, lock_in, claimed}
 use Rattle.dht_section.specs.declared.machine.Ask.{Ask}
 
-pub scope_moved : (w : Scoped) (s t : Scene) (a : Ask) (r : Reply) → HasScope w s → Guarantee s a r t → HasScope w t
+pub scope_moved :
+    (w : Scoped) (s t : Scene) (a : Ask) (r : Reply) → HasScope w s → Guarantee s a r t
+    → HasScope w t
 scope_moved w s t a r h m = record { bricks = ap length m.weights ∙ h.bricks; homes = h.homes }
 
 -- the locks below one that was given back are still claimed
-pub rest_claimed : (w : Scoped) (i : ℕ) (right : Scene → Type 0) (r : Reply) (at : ℕ) (s t : Scene) → Served (unlocking_stage w i right) r at s t → MayClaimNext t (unlocking_stage w i right).claims (claims_locks (claimed w i))
+pub rest_claimed :
+    (w : Scoped) (i : ℕ) (right : Scene → Type 0) (r : Reply) (at : ℕ) (s t : Scene)
+    → Served (unlocking_stage w i right) r at s t
+    → MayClaimNext t (unlocking_stage w i right).claims (claims_locks (claimed w i))
 rest_claimed w i right r at s t v = claims_less (unlocking_stage w i right) r at s t (lock_in w i) (claimed w i) (ap claims_locks (claimed_more w i)) (lock_given_back s t (lock_brick w (key_at w i)) (key_at w i) r v.moved) v
 
 -- what is earned stays so
-pub still_earned : (w : Scoped) (i : ℕ) (right : Scene → Type 0) → ((s t : Scene) (a : Ask) (r : Reply) → IsQuiet a.request → right s → Guarantee s a r t → right t) → (r : Reply) (at : ℕ) (s t : Scene) → Served (unlocking_stage w i right) r at s t → right t
+pub still_earned :
+    (w : Scoped) (i : ℕ) (right : Scene → Type 0)
+    → ((s t : Scene) (a : Ask) (r : Reply) → IsQuiet a.request → right s → Guarantee s a r t
+    → right t)
+    → (r : Reply) (at : ℕ) (s t : Scene) → Served (unlocking_stage w i right) r at s t → right t
 still_earned w i right stays r at s t v = stays s t _ r tt v.is_at.knows.earned v.moved
 
-pub unlocking_next : (w : Scoped) (i : ℕ) (right : Scene → Type 0) → ((s t : Scene) (a : Ask) (r : Reply) → IsQuiet a.request → right s → Guarantee s a r t → right t) → 0 < i → (r : Reply) (at : ℕ) (s t : Scene) → Served (unlocking_stage w i right) r at s t → GoesOn (unlocking_stage w i right) (unlocking_stage w (i - 1) right) r t
+pub unlocking_next :
+    (w : Scoped) (i : ℕ) (right : Scene → Type 0)
+    → ((s t : Scene) (a : Ask) (r : Reply) → IsQuiet a.request → right s → Guarantee s a r t
+    → right t)
+    → 0 < i → (r : Reply) (at : ℕ) (s t : Scene) → Served (unlocking_stage w i right) r at s t
+    → GoesOn (unlocking_stage w i right) (unlocking_stage w (i - 1) right) r t
 unlocking_next w i right stays l r at s t v =
     let e : suc (i - 1) ≡ i = omega arith in
     let h = v.is_at.knows in
@@ -46,5 +60,8 @@ unfolding claimed
 none_claimed w = refl
 
 -- after the first lock nothing is claimed
-pub nothing_claimed : (w : Scoped) (i : ℕ) (right : Scene → Type 0) → i ≡ 0 → (r : Reply) (at : ℕ) (s t : Scene) → Served (unlocking_stage w i right) r at s t → MayClaimNext t (unlocking_stage w i right).claims (claims_locks [])
+pub nothing_claimed :
+    (w : Scoped) (i : ℕ) (right : Scene → Type 0) → i ≡ 0 → (r : Reply) (at : ℕ) (s t : Scene)
+    → Served (unlocking_stage w i right) r at s t
+    → MayClaimNext t (unlocking_stage w i right).claims (claims_locks [])
 nothing_claimed w i right e r at s t v = subst (λ (ls : List ALock). MayClaimNext t (unlocking_stage w i right).claims (claims_locks ls)) (ap (claimed w) e ∙ none_claimed w) (rest_claimed w i right r at s t v)

@@ -1,4 +1,5 @@
--- A request that was not carried out, though its brick did as it should, does what others may do: so what is known stays.
+-- A request that was not carried out, though its brick did as
+-- it should, does what others may do: so what is known stays.
 use Rattle.std.proofs.Common.{◌≡◌, ◌≤◌, ◌||◌, ℕ, List, Bool, true, false, refl, sym, ◌∙◌, ap, subst}
 use Rattle.std.specs.Prelude.{Option, Some, None, nat_eq}
 use Rattle.dht_types.proofs.PutLaws.{put_keeps, exact_nat}
@@ -50,7 +51,9 @@ pub record Unchanged (s t : Scene) : Type 0 where
   pub later : s.history.size ≤ t.history.size
   pub past : (j : ℕ) → j ≤ s.history.size → t.history.past j ≡ s.history.past j
 
-stands_same : (s t : Scene) → Unchanged s t → (e : Entry) (h : NameShape) → NameStands s e h → NameStands t e h
+stands_same :
+    (s t : Scene) → Unchanged s t → (e : Entry) (h : NameShape) → NameStands s e h
+    → NameStands t e h
 stands_same s t x e h k =
     subst (λ (d : Disk). StandsAs d.count (cores_of d e) (t.history.tree.names e) h) (sym x.disk)
     (subst (λ (p : Tree). StandsAs s.disk.count (cores_of s.disk e) (p.names e) h) (sym x.tree) k)
@@ -92,7 +95,9 @@ put_back : (f : ℕ → Contents) (b : ℕ) (v : Contents) → v ≡ f b → put
 put_back f b v e = λ i m. put_keeps (λ (x : Contents). x) nat_eq exact_nat f b v e m i
 
 -- where it was refused or had to wait, nothing was done
-left_alone : (o : Outcome Contents) (old : Contents) (r : Reply) (new : Contents) → fault_of r ≡ None → is_carried (reply_kind r) ≡ false → ServesOrFails o old r new → new ≡ old
+left_alone :
+    (o : Outcome Contents) (old : Contents) (r : Reply) (new : Contents) → fault_of r ≡ None
+    → is_carried (reply_kind r) ≡ false → ServesOrFails o old r new → new ≡ old
 left_alone o old (Carried given) new z k h = absurd (let e : true ≡ false = k in cc)
 left_alone o old (Declined why) new z k h = h.1
 left_alone o old (Wait holder) new z k h = h.1
@@ -100,7 +105,8 @@ left_alone o old Down new z k h = h
 left_alone o old Failed new z k h = h
 left_alone o old NoMemory new z k h = h
 
-no_step_done : (b : ℕ) (q : Request) (r : Reply) → is_carried (reply_kind r) ≡ false → step_of b q r ≡ None
+no_step_done :
+    (b : ℕ) (q : Request) (r : Reply) → is_carried (reply_kind r) ≡ false → step_of b q r ≡ None
 no_step_done b q (Carried given) k = absurd (let e : true ≡ false = k in cc)
 no_step_done b q (Declined why) k = refl
 no_step_done b q (Wait holder) k = refl
@@ -129,7 +135,9 @@ or_nothing true b e = refl
 or_nothing false b e = e
 
 -- so is what a request leaves that changes nothing
-pub nothing_done : (s t : Scene) (a : Ask) (r : Reply) → fault_of r ≡ None → (m : Guarantee s a r t) → m.new ≡ s.disk.brick a.brick.0 → step_of a.brick.0 a.request m.real ≡ None → Unchanged s t
+pub nothing_done :
+    (s t : Scene) (a : Ask) (r : Reply) → fault_of r ≡ None → (m : Guarantee s a r t)
+    → m.new ≡ s.disk.brick a.brick.0 → step_of a.brick.0 a.request m.real ≡ None → Unchanged s t
 nothing_done s t a r z m same none =
     let bricks : t.disk.brick ≡ s.disk.brick = m.disk.brick ∙ put_back s.disk.brick a.brick.0 m.new same in
     record {
@@ -153,10 +161,14 @@ nothing_done s t a r z m same none =
       past = m.past;
     }
 
-pub unserved : (s t : Scene) (a : Ask) (r : Reply) → fault_of r ≡ None → is_carried (reply_kind r) ≡ false → Guarantee s a r t → Unchanged s t
+pub unserved :
+    (s t : Scene) (a : Ask) (r : Reply) → fault_of r ≡ None → is_carried (reply_kind r) ≡ false
+    → Guarantee s a r t → Unchanged s t
 unserved s t a r z k m = nothing_done s t a r z m
     (left_alone _ (s.disk.brick a.brick.0) r m.new z k (served_as_seen s t a r m z))
     (ap (step_of a.brick.0 a.request) (real_is s t a r m z) ∙ no_step_done a.brick.0 a.request r k)
 
-pub unserved_is_rely : (s t : Scene) (a : Ask) (r : Reply) → fault_of r ≡ None → is_carried (reply_kind r) ≡ false → Guarantee s a r t → Rely s t
+pub unserved_is_rely :
+    (s t : Scene) (a : Ask) (r : Reply) → fault_of r ≡ None → is_carried (reply_kind r) ≡ false
+    → Guarantee s a r t → Rely s t
 unserved_is_rely s t a r z k m = unchanged_is_rely s t (unserved s t a r z k m)

@@ -51,7 +51,8 @@ use Rattle.dht_section.specs.declared.section.Unheld.TheVariants.{Gone, Stopped}
 
 -- ---- a quiet request of one's own
 
-pub quiet_same : (s t : Scene) (a : Ask) (r : Reply) → IsQuiet a.request → Guarantee s a r t → StoresTheSame s t
+pub quiet_same :
+    (s t : Scene) (a : Ask) (r : Reply) → IsQuiet a.request → Guarantee s a r t → StoresTheSame s t
 quiet_same s t a r q m = record {
   count = m.disk.count;
   weights = m.weights;
@@ -60,26 +61,38 @@ quiet_same s t a r q m = record {
 }
 
 -- leaves what hangs on the tree and the bricks' stores alone
-pub if_alone_moved : (P : Scene → Type 0) → ((s t : Scene) → StoresTheSame s t → P s → P t) → (s t : Scene) (a : Ask) (r : Reply) → IsQuiet a.request → IfAlone P s → Guarantee s a r t → IfAlone P t
+pub if_alone_moved :
+    (P : Scene → Type 0) → ((s t : Scene) → StoresTheSame s t → P s → P t)
+    → (s t : Scene) (a : Ask) (r : Reply) → IsQuiet a.request → IfAlone P s → Guarantee s a r t
+    → IfAlone P t
 if_alone_moved P stays s t a r q h m now = stays s t (quiet_same s t a r q m) (h (alone_before s t a r m now))
 
 -- ---- the looks of a section
 
 -- a look at a name of a directory that is whole is carried out
-copy_shown : (w : Scoped) (n : ℕ) (b : BrickNo) (s t : Scene) (r : Reply) → fault_of r ≡ None → b.0 < s.disk.count → IsWhole s.disk (name_at w n).0 → Guarantee s (look_ask w n b) r t → is_carried (reply_kind r) ≡ true
+copy_shown :
+    (w : Scoped) (n : ℕ) (b : BrickNo) (s t : Scene) (r : Reply) → fault_of r ≡ None
+    → b.0 < s.disk.count → IsWhole s.disk (name_at w n).0 → Guarantee s (look_ask w n b) r t
+    → is_carried (reply_kind r) ≡ true
 copy_shown w n b s t r z l h m =
     ap (λ x. is_carried (reply_kind x)) (row_reply s t (look_ask w n b) r m z)
     ∙ (carried_there (dir_at s.disk b.0 (name_at w n).0) (s.disk.brick b.0) (name_at w n) ∙ h.copies b.0 l)
 
 -- so the mark of one brick more is set
-showed_more : (bricks : ℕ) (x : Sight) (b : BrickNo) (r : Reply) → b.0 < length x.copies → is_carried (reply_kind r) ≡ true → ShowedCopies b.0 x → ShowedCopies (b.0 + 1) (sight_with bricks x b r)
+showed_more :
+    (bricks : ℕ) (x : Sight) (b : BrickNo) (r : Reply) → b.0 < length x.copies
+    → is_carried (reply_kind r) ≡ true → ShowedCopies b.0 x
+    → ShowedCopies (b.0 + 1) (sight_with bricks x b r)
 showed_more bricks x b r room e h i l = elim (nat_cases i b.0) [
   | inl q ↦ ap (mark_at (sight_with bricks x b r).copies) q ∙ (set_there x.copies b.0 (is_carried (reply_kind r)) false room ∙ e)
   | inr ne ↦ set_other x.copies b.0 i (is_carried (reply_kind r)) false room ne ∙ h i (below_or i b.0 (omega arith) ne)
 ]
 
 -- and of one name more
-all_more : (g : Gfid) (w : Scoped) (n : ℕ) (looks : List Looked) (x : Looked) → n < length looks → AllShowed g w n looks → ((name_at w n).0 ≡ g → ShowedCopies w.bricks x.sight) → AllShowed g w (n + 1) (with_looked looks n x)
+all_more :
+    (g : Gfid) (w : Scoped) (n : ℕ) (looks : List Looked) (x : Looked) → n < length looks
+    → AllShowed g w n looks → ((name_at w n).0 ≡ g → ShowedCopies w.bricks x.sight)
+    → AllShowed g w (n + 1) (with_looked looks n x)
 all_more g w n looks x room h new j l e = elim (nat_cases j n) [
   | inl q ↦ subst (λ (i : ℕ). ShowedCopies w.bricks (looked_at (with_looked looks n x) i).sight) (sym q)
       (subst (λ (y : Looked). ShowedCopies w.bricks y.sight) (sym (set_there looks n x _ room)) (new (ap (λ (i : ℕ). (name_at w i).0) (sym q) ∙ e)))
@@ -89,11 +102,15 @@ all_more g w n looks x room h new j l e = elim (nat_cases j n) [
 abbrev Showed : Gfid → Turn Section Opened → Type 0
 Showed g turn = MatchTurn turn (ShowedSoFar g) (ShowedOpened g)
 
-unheld_showed : (g : Gfid) (w : Scoped) (i : ℕ) (x : Unheld) → Showed g (Rattle.dht_section.specs.Section.unlocked w i x)
+unheld_showed :
+    (g : Gfid) (w : Scoped) (i : ℕ) (x : Unheld)
+    → Showed g (Rattle.dht_section.specs.Section.unlocked w i x)
 unheld_showed g w i (Gone d at) = either_turn (Showed g) (nat_lt 0 i) _ _ (λ e. tt) (λ e. tt)
 unheld_showed g w i (Stopped x) = either_turn (Showed g) (nat_lt 0 i) _ _ (λ e. tt) (λ e. tt)
 
-showed_next : (g : Gfid) (m : Section) (r : Reply) (at : ℕ) (s t : Scene) → Served (section_stage m) r at s t → IsWhole s.disk g → ShowedSoFar g m → Showed g (section_after m r at)
+showed_next :
+    (g : Gfid) (m : Section) (r : Reply) (at : ℕ) (s t : Scene) → Served (section_stage m) r at s t
+    → IsWhole s.disk g → ShowedSoFar g m → Showed g (section_after m r at)
 showed_next g (Locking w i looks) r at s t v whole h = unless_kept (Showed g) w i _ (fault_of r) (fault_of r) refl (λ e z. tt)
     (λ z. either_turn (Showed g) (is_carried (reply_kind r)) (locked w i looks) _
     (λ k. either_turn (Showed g) (nat_lt 1 (length w.keys - i)) _ (all_locked w looks) (λ q. tt)
@@ -139,7 +156,11 @@ asks_quiet (Locking w i looks) = tt
 asks_quiet (Looking w looks n b x) = tt
 asks_quiet (Unlocking w i x) = tt
 
-whole_turn : (g : Gfid) (s t : Scene) (Before : Type 0) (turn : Turn Section Opened) → StoresTheSame s t → (IsAlone t.history t.mine → IsWholeOrGone g Before s) → (IsWhole s.disk g → Before → Showed g turn) → MatchTurn turn (λ n. SeesWhole g n t) (λ d. EndsWhole g d t)
+whole_turn :
+    (g : Gfid) (s t : Scene) (Before : Type 0) (turn : Turn Section Opened) → StoresTheSame s t
+    → (IsAlone t.history t.mine → IsWholeOrGone g Before s)
+    → (IsWhole s.disk g → Before → Showed g turn)
+    → MatchTurn turn (λ n. SeesWhole g n t) (λ d. EndsWhole g d t)
 whole_turn g s t Before (Go n) same h showed = λ now. whole_or_gone_stays s t g (ShowedSoFar g n) same (elim (h now) [
   | inl q ↦ inl (q.0, showed q.0 q.1)
   | inr q ↦ inr q
@@ -150,11 +171,17 @@ whole_turn g s t Before (Done d) same h showed = λ now. whole_or_gone_stays s t
 ])
 
 -- a section of a directory that is whole sees its copies, step by step
-pub sees_whole_next : (g : Gfid) (m : Section) (r : Reply) (at : ℕ) (s t : Scene) → Served (section_stage m) r at s t → SeesWhole g m s → MatchTurn (section_after m r at) (λ n. SeesWhole g n t) (λ d. EndsWhole g d t)
+pub sees_whole_next :
+    (g : Gfid) (m : Section) (r : Reply) (at : ℕ) (s t : Scene) → Served (section_stage m) r at s t
+    → SeesWhole g m s
+    → MatchTurn (section_after m r at) (λ n. SeesWhole g n t) (λ d. EndsWhole g d t)
 sees_whole_next g m r at s t v h = whole_turn g s t (ShowedSoFar g m) (section_after m r at) (quiet_same s t _ r (asks_quiet m) v.moved) (λ now. h (alone_before s t _ r v.moved now)) (λ whole. showed_next g m r at s t v whole)
 
 -- it begins after a heal that was alone
-pub sees_whole_begun : (g : Gfid) (p : Prepared) (s : Scene) → IfAlone (λ s. IsHealed s.disk s.history.tree g ⊎ (s.history.tree.dirs g ≡ false)) s → SeesWhole g (begun p) s
+pub sees_whole_begun :
+    (g : Gfid) (p : Prepared) (s : Scene)
+    → IfAlone (λ s. IsHealed s.disk s.history.tree g ⊎ (s.history.tree.dirs g ≡ false)) s
+    → SeesWhole g (begun p) s
 sees_whole_begun g p s h now = elim (h now) [
   | inl q ↦ inl (q g Self, tt)
   | inr q ↦ inr q
@@ -163,7 +190,9 @@ sees_whole_begun g p s h now = elim (h now) [
 -- ---- a section that is held
 
 -- a directory that is whole has a holder of each name
-whole_holder : (s : Scene) (e : Entry) → IsWhole s.disk e.0 → (b : ℕ) × (holder (layout_of s.disk e.0) (dm e.1) ≡ Some b)
+whole_holder :
+    (s : Scene) (e : Entry) → IsWhole s.disk e.0
+    → (b : ℕ) × (holder (layout_of s.disk e.0) (dm e.1) ≡ Some b)
 whole_holder s e h = by (holder (layout_of s.disk e.0) (dm e.1)) refl
   where
     by : (o : Option ℕ) → holder (layout_of s.disk e.0) (dm e.1) ≡ o → (b : ℕ) × (holder (layout_of s.disk e.0) (dm e.1) ≡ Some b)
@@ -171,14 +200,19 @@ whole_holder s e h = by (holder (layout_of s.disk e.0) (dm e.1)) refl
     by (Some b) q = (b, q)
 
 -- the name's own looks
-held_showed : (l : Location) (h : Held) (s : Scene) → IsHeldAt l h s → AllShowed l.directory h.scope (length h.scope.names) h.looks → ShowedCopies h.scope.bricks (held_looked h (entry_at l)).sight
+held_showed :
+    (l : Location) (h : Held) (s : Scene) → IsHeldAt l h s
+    → AllShowed l.directory h.scope (length h.scope.names) h.looks
+    → ShowedCopies h.scope.bricks (held_looked h (entry_at l)).sight
 held_showed l h s k all =
     let p = place_is h.scope (entry_at l) (wanted l h k.scope) in
     subst (λ (x : Looked). ShowedCopies h.scope.bricks x.sight) (sym (ap (λ (o : Option ℕ). looked_of o h.looks) p.is))
     (all p.place p.within (ap (λ (x : Entry). x.0) p.name))
 
 -- a section that is held after a heal has a holder of its name, which showed its copy
-pub ends_with_holder : (l : Location) (h : Held) (s : Scene) → Sound s → IsHeldAt l h s → EndsWhole l.directory (Holding h) s → IsAlone s.history s.mine → HasHolder l h s
+pub ends_with_holder :
+    (l : Location) (h : Held) (s : Scene) → Sound s → IsHeldAt l h s
+    → EndsWhole l.directory (Holding h) s → IsAlone s.history s.mine → HasHolder l h s
 ends_with_holder l h s sound k ends now = elim (ends now) [
   | inr q ↦ absurd (let z : false ≡ true = sym q ∙ in_tree l h s sound k in cc)
   | inl q ↦ has_it q.0 (held_showed l h s k q.1)

@@ -25,7 +25,9 @@ is_decided (Carried given) = true
 is_decided (Declined why) = true
 is_decided r = false
 
--- the reply is no answer to a layout that is set, a create, an unlink, a linkto that is laid or dropped, a seal or a drop, to a request for a directory's record, or to a look by a call that claims no lock: the call has to wait, or is refused for a reason that it does not name
+-- the reply is no answer to a layout that is set, a create, an unlink, a linkto that is laid
+-- or dropped, a seal or a drop, to a request for a directory's record, or to a look by a call
+-- that claims no lock: the call has to wait, or is refused for a reason that it does not name
 abbrev pub IsNoAnswer : Request → List Lock → Reply → Type 0
 IsNoAnswer (OnNames (SetLayout d value)) ls r = is_carried (reply_kind r) ≡ false
 IsNoAnswer (OnNames (Create d n f)) ls r = is_carried (reply_kind r) ≡ false

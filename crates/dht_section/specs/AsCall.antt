@@ -1,4 +1,5 @@
--- Answers to another call than the one that runs: a call may run another's program as its first part.
+-- Answers to another call than the one that runs: a
+-- call may run another's program as its first part.
 use Rattle.dht_types.specs.declared.calls.Call.{Call}
 use Rattle.dht_types.specs.declared.identifiers.Gfid.{Gfid}
 use Rattle.dht_section.specs.Scene.{Scene, MayAnswer}

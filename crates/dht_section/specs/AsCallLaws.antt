@@ -17,7 +17,8 @@ use Rattle.dht_section.specs.declared.machine.Ask.{Ask}
 use Rattle.dht_section.specs.declared.machine.Finish.{Finish}
 
 -- it stays so, whatever others do
-pub may_answer_as_stable : (c : Call Gfid) (f : Finish) (s t : Scene) → MayAnswerAs c f s → Rely s t → MayAnswerAs c f t
+pub may_answer_as_stable :
+    (c : Call Gfid) (f : Finish) (s t : Scene) → MayAnswerAs c f s → Rely s t → MayAnswerAs c f t
 may_answer_as_stable c f s t h o = answers_kept s.history t.history (as_call c s).mine (as_call c t).mine f.at f.answer (record {
   since = o.mine.since;
   call = refl;
@@ -29,7 +30,9 @@ may_answer_as_stable c f s t h o = answers_kept s.history t.history (as_call c s
 }) h
 
 -- and after a request of one's own that does no step
-pub may_answer_as_moved : (c : Call Gfid) (f : Finish) (s t : Scene) (a : Ask) (r : Reply) → t.mine.deeds ≡ s.mine.deeds → Guarantee s a r t → MayAnswerAs c f s → MayAnswerAs c f t
+pub may_answer_as_moved :
+    (c : Call Gfid) (f : Finish) (s t : Scene) (a : Ask) (r : Reply) → t.mine.deeds ≡ s.mine.deeds
+    → Guarantee s a r t → MayAnswerAs c f s → MayAnswerAs c f t
 may_answer_as_moved c f s t a r e m h = answers_kept s.history t.history (as_call c s).mine (as_call c t).mine f.at f.answer (record {
   since = m.mine.since;
   call = refl;
@@ -41,11 +44,14 @@ may_answer_as_moved c f s t a r e m h = answers_kept s.history t.history (as_cal
 }) h
 
 -- the call that runs may answer what it could answer if it were itself
-pub may_answer_as_itself : (c : Call Gfid) (f : Finish) (s : Scene) → s.mine.call ≡ c → MayAnswerAs c f s → MayAnswer f s
+pub may_answer_as_itself :
+    (c : Call Gfid) (f : Finish) (s : Scene) → s.mine.call ≡ c → MayAnswerAs c f s → MayAnswer f s
 may_answer_as_itself c f s e h = subst (λ (k : Call Gfid). MayAnswer f (as_call k s)) (sym e) h
 
 -- the error of a brick is an answer to any call
-pub fault_as : (c : Call Gfid) (e : Errno) (s : Scene) → brick_error e ≡ Some e → MayAnswer (fault_finish e) s → MayAnswerAs c (fault_finish e) s
+pub fault_as :
+    (c : Call Gfid) (e : Errno) (s : Scene) → brick_error e ≡ Some e → MayAnswer (fault_finish e) s
+    → MayAnswerAs c (fault_finish e) s
 fault_as c Enotconn s is h = h
 fault_as c Eio s is h = h
 fault_as c Enomem s is h = h

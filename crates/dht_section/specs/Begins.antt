@@ -9,7 +9,8 @@ use Rattle.dht_types.specs.declared.calls.Call.{Call}
 use Rattle.dht_section.specs.Scene.{Scene}
 
 -- the scene of a call that was accepted just now, of a client that is new or is not
-pub record Begins (c : ClientNo) (is_new : Bool) (ws : List ℕ) (n : ℕ) (k : CallNo) (what : Call Gfid) (s : Scene) : Type 0 where
+pub record Begins (c : ClientNo) (is_new : Bool) (ws : List ℕ) (n : ℕ) (k : CallNo)
+    (what : Call Gfid) (s : Scene) : Type 0 where
   pub who : s.who ≡ c
   pub weights : s.history.weights ≡ ws
   pub run : s.history.run ≡ n

@@ -1,5 +1,5 @@
--- What a client's program claims of the scene, for the invariant to speak of: the locks that it asked
--- for, and up to where it has copied a file.
+-- What a client's program claims of the scene, for the invariant to speak
+-- of: the locks that it asked for, and up to where it has copied a file.
 use Rattle.std.specs.Prelude.{ℕ, ◌<◌, ◌≤◌, ◌≡◌, ◌⊎◌, ◌&&◌, true, nat_eq, if◌then◌else◌, Option, Some, None, List, [], ◌∷◌}
 use Rattle.std.specs.Ordering.{nat_cmp, ordering_then, is_lt}
 use Rattle.std.specs.Cmp.Lexicographic.{slice_cmp}
@@ -15,7 +15,8 @@ pub record Lock : Type 0 where
   pub brick : ℕ
   pub key : Key
 
--- a copy that is being made: the file, the brick on which its copy stands, and the place up to which they agree
+-- a copy that is being made: the file, the brick on which
+-- its copy stands, and the place up to which they agree
 pub record Copy : Type 0 where
   pub file : Gfid
   pub dest : ℕ
@@ -46,9 +47,11 @@ place_in (Some c) f dest = if same_gfid c.file f && nat_eq c.dest dest then c.pl
 abbrev pub places_of : (ℕ → Claim) → Gfid → ℕ → ℕ → ℕ
 places_of claims f dest client = place_in (claims client).copy f dest
 
--- what a program may claim next, where it holds these locks: at least those; and of a copy no more than before
+-- what a program may claim next, where it holds these
+-- locks: at least those; and of a copy no more than before
 pub record MayClaim (count : ℕ) (holds : ℕ → Key → Option Mode) (old new : Claim) : Type 0 where
-  pub locks : (b : ℕ) (key : Key) (m : Mode) → b < count → holds b key ≡ Some m → Listed new.locks b key
+  pub locks :
+      (b : ℕ) (key : Key) (m : Mode) → b < count → holds b key ≡ Some m → Listed new.locks b key
   pub copy : (f : Gfid) (dest : ℕ) → place_in new.copy f dest ≤ place_in old.copy f dest
 
 -- the rank of a lock: by kind, then by gfid, then by name
@@ -71,7 +74,8 @@ name_rank key = []
 abbrev pub rank_cmp : Key → Key → Ordering
 rank_cmp a b =
     ordering_then (nat_cmp (kind_rank a) (kind_rank b))
-    (ordering_then (nat_cmp (gfid_rank a) (gfid_rank b)) (slice_cmp nat_cmp (name_rank a) (name_rank b)))
+    (ordering_then (nat_cmp (gfid_rank a) (gfid_rank b))
+    (slice_cmp nat_cmp (name_rank a) (name_rank b)))
 
 -- a key is above each lock of a list
 abbrev pub IsAbove : Key → List Lock → Type 0

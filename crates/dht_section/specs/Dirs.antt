@@ -8,7 +8,8 @@ use Rattle.dht_brick.specs.Contents.{entry_at}
 use Rattle.dht_types.specs.declared.names.EntryKey.{EntryKey}
 use Rattle.dht_section.specs.Views.{DirView}
 
--- a copy of a directory stands at its name in its parent, of which the brick has a copy too, one depth above
+-- a copy of a directory stands at its name in its parent,
+-- of which the brick has a copy too, one depth above
 pub record StandsIn (v : DirView) (b : ℕ) (r : DirRecord) (k : EntryKey) : Type 0 where
   pub main : v.mains b (entry_at k) ≡ true
   pub above : ℕ
@@ -34,8 +35,10 @@ pub record CopyAt (v : DirView) (b : ℕ) (e : Entry) : Type 0 where
   pub name : entry_at key ≡ e
 
 -- the tree has the directory, or not, and this is its descent, if it ever was
-pub record DirInvariant (count : ℕ) (g : Gfid) (v : DirView) (tree : Bool) (descent : Option Descent) : Type 0 where
-  -- it is a directory of the tree exactly where its home has its copy, and a copy is beside one there
+pub record DirInvariant (count : ℕ) (g : Gfid) (v : DirView) (tree : Bool)
+    (descent : Option Descent) : Type 0 where
+  -- it is a directory of the tree exactly where its
+  -- home has its copy, and a copy is beside one there
   pub homed : tree ≡ is_some (v.copies (home g))
   pub led : (b : ℕ) → b < count → is_some (v.copies b) ≡ true → (home g < count) × (tree ≡ true)
   pub one : (b i : ℕ) (r q : DirRecord)

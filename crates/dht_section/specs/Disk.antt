@@ -1,4 +1,5 @@
--- All bricks at one time: what they have at a name, of a file and of a directory, and how their locks are held.
+-- All bricks at one time: what they have at a name, of a
+-- file and of a directory, and how their locks are held.
 use Rattle.std.specs.Prelude.{ℕ, zero, suc, ◌≡◌, nat_eq, Option, Some, None, List, [], ◌∷◌, ◌++◌}
 use Rattle.dht_types.specs.Put.{put}
 use Rattle.dht_types.specs.Gfid.{Entry, anchor}
@@ -30,7 +31,8 @@ file_of_main m = None
 abbrev pub file_in : Slot → Option Gfid
 file_in p = file_of_main p.main
 
--- what a brick has at a name, the file that the name is there, and what it has of a file and of a directory
+-- what a brick has at a name, the file that the name is
+-- there, and what it has of a file and of a directory
 abbrev pub slot_at : Disk → ℕ → Entry → Slot
 slot_at d b e = slot (d.brick b).store e
 

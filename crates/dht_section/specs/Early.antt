@@ -1,6 +1,6 @@
--- What holds beside the invariant only as long as no call does more than look for names, make files and
--- directories, and take their names away. A request that does more deletes the fact that it makes
--- false, and nothing else changes.
+-- What holds beside the invariant only as long as no call does more than look
+-- for names, make files and directories, and take their names away. A request
+-- that does more deletes the fact that it makes false, and nothing else changes.
 use Rattle.std.specs.Prelude.{ℕ, ◌<◌, ◌≤◌, ◌≡◌, ◌⊎◌, false, Some, List}
 use Rattle.std.specs.FinMap.{contains_key}
 use Rattle.dht_types.specs.Gfid.{Entry, run_of}
@@ -17,8 +17,8 @@ use Rattle.dht_section.specs.Planned.{AllPlanned}
 use Rattle.dht_section.specs.Truth.{plain, folder}
 use Rattle.dht_section.specs.Views.{core}
 
--- a slot has no part but perhaps a linkto, or is a directory's name, or a file's where nothing is under
--- way
+-- a slot has no part but perhaps a linkto, or is a
+-- directory's name, or a file's where nothing is under way
 abbrev pub IsPlain : Slot → Type 0
 IsPlain p = (core p ≡ bare) ⊎ ((f : Gfid) × (p ≡ plain f)) ⊎ ((g : Gfid) × (p ≡ folder g))
 
@@ -35,7 +35,8 @@ pub record Early (d : Disk) (s : History) : Type 0 where
   -- until a file is opened
   pub unopened : (b : ℕ) (r : Registration)
       → b < d.count → contains_key (d.brick b).opens.registered r ≡ false
-  -- until layouts change otherwise: in the first run all ranges are planned, and a name is on its holder
+  -- until layouts change otherwise: in the first run
+  -- all ranges are planned, and a name is on its holder
   pub planned : (g : Gfid) → s.run ≡ 1 → AllPlanned d s.weights g
   pub held : (e : Entry) (b : ℕ) (f : Gfid)
       → s.run ≡ 1 → b < d.count → name_at d b e ≡ Some f → holder_of d e ≡ Some b

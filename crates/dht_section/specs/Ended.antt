@@ -24,6 +24,8 @@ abbrev pub gone_at : ℕ → Finish
 gone_at at = record { answer = Fault Estale; at = Some at }
 
 -- a machine learns the layout that a reply teaches, and hands out the one that it has learned
-abbrev pub Learns : {M : Type 0} → (M → Option (List (Option Range))) → (M → Reply → Option (List (Option Range))) → M → Reply → Turn M Ended → Type 0
+abbrev pub Learns :
+    {M : Type 0} → (M → Option (List (Option Range))) → (M → Reply → Option (List (Option Range)))
+    → M → Reply → Turn M Ended → Type 0
 Learns layout taught m r turn =
     MatchTurn turn (λ n. layout n ≡ either (taught m r) (layout m)) (λ d. d.layout ≡ layout m)

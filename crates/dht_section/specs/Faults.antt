@@ -46,8 +46,10 @@ brick_fault (Made f) = None
 brick_fault Done = None
 brick_fault (Fault e) = brick_error e
 
--- at a turn a machine notes the first error that a reply to one of its requests tells of; and the call answers it, and no error of a brick where there is none
-abbrev pub NotesFault : {M : Type 0} → (M → Option Errno) → M → Request → Reply → Turn M Ended → Type 0
+-- at a turn a machine notes the first error that a reply to one of its requests
+-- tells of; and the call answers it, and no error of a brick where there is none
+abbrev pub NotesFault :
+    {M : Type 0} → (M → Option Errno) → M → Request → Reply → Turn M Ended → Type 0
 NotesFault fault m q r turn =
     MatchTurn turn (λ n. fault n ≡ either (fault m) (fault_for q r))
     (λ d. brick_fault d.finish.answer ≡ either (fault m) (fault_for q r))

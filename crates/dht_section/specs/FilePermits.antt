@@ -23,7 +23,10 @@ use Rattle.dht_section.specs.Views.{view_of}
 
 -- this client has the file open
 abbrev pub HasOpen : Scene → Gfid → Type 0
-HasOpen s f = (k : CallNo) × (contains_key (s.disk.brick (anchor f s.disk.count)).opens.registered (registration f s.who k) ≡ true)
+HasOpen s f =
+    (k : CallNo)
+    × (contains_key (s.disk.brick (anchor f s.disk.count)).opens.registered (registration f s.who k)
+    ≡ true)
 
 abbrev pub HoldsRebalance : Scene → Type 0
 HoldsRebalance s = is_some ((s.disk.brick 0).locks Rebalance s.who.0) ≡ true
@@ -32,7 +35,8 @@ HoldsRebalance s = is_some ((s.disk.brick 0).locks Rebalance s.who.0) ≡ true
 abbrev pub IsUncopied : Scene → Gfid → ℕ → Type 0
 IsUncopied s f t = (w : ℕ) → places_of s.claims f t w ≡ 0
 
--- a change of the source alone does no harm: each copy is dirty, or empty while no program claims a place
+-- a change of the source alone does no harm: each copy
+-- is dirty, or empty while no program claims a place
 abbrev pub IsReady : Scene → Gfid → Type 0
 IsReady s f =
     (t : ℕ) (c : StandbyRecord) → t < s.disk.count → file_at s.disk t f ≡ Some (stored.Standby c)

@@ -1,4 +1,5 @@
--- The invariant of one file: its records, its names, its copy, its pointers, who has it open, and its bytes.
+-- The invariant of one file: its records, its names, its
+-- copy, its pointers, who has it open, and its bytes.
 use Rattle.std.specs.Prelude.{ℕ, ◌+◌, ◌<◌, ◌≤◌, ◌≡◌, ◌≢◌, ◌⊎◌, true, false, Option, Some, None, List, length, take}
 use Rattle.dht_types.specs.Gfid.{Entry}
 use Rattle.dht_types.specs.declared.identifiers.BrickNo.{BrickNo}
@@ -37,7 +38,8 @@ NoCopy count v = (i : ℕ) (x : Entry) → i < count → v.copies i x ≡ false
 abbrev pub NoLink : ℕ → FileView → Type 0
 NoLink count v = (i : ℕ) (x : Entry) → i < count → v.links i x ≡ false
 
--- a copy that is not committed is dirty, or agrees with its source up to where any client has copied
+-- a copy that is not committed is dirty, or agrees
+-- with its source up to where any client has copied
 abbrev pub Agrees : (ℕ → ℕ) → StandbyRecord → List ℕ → Type 0
 Agrees places c source = (c.is_dirty ≡ true) ⊎ ((who : ℕ) → Agree (places who) c.bytes source)
 
@@ -59,8 +61,10 @@ NamedAs count v places (Moved t c) = (c.is_dirty ≡ false) × OnlyCopy count v 
 pub data Leads (v : FileView) (h : FileShape) (b k : ℕ) : Type 0 where
   ToMain : main_brick h ≡ Some b → (n : ℕ) → top_hop h ≡ Some n → k ≤ n → Leads v h b k
   ToMoved : (c : StandbyRecord) → h ≡ Moved b c → k ≤ c.hop → Leads v h b k
-  ToCopy : (c : StandbyRecord) → v.records b ≡ Some (stored.Standby c) → k + 2 ≤ c.hop → Leads v h b k
-  Onward : (n : ℕ) (next : BrickNo) → v.records b ≡ Some (stored.Forward n next) → k < n → Leads v h b k
+  ToCopy :
+      (c : StandbyRecord) → v.records b ≡ Some (stored.Standby c) → k + 2 ≤ c.hop → Leads v h b k
+  Onward :
+      (n : ℕ) (next : BrickNo) → v.records b ≡ Some (stored.Forward n next) → k < n → Leads v h b k
 
 -- each pointer of a file that has bytes leads on, and is not above the file
 abbrev pub PointsOn : ℕ → FileView → FileShape → Type 0
@@ -74,8 +78,10 @@ abbrev pub HasName : ℕ → FileView → Type 0
 HasName count v =
     (i : ℕ) × (x : Entry) × (i < count) × ((v.links i x ≡ true) ⊎ (v.copies i x ≡ true))
 
--- no brick has the file's hop above top; places says up to where each client has copied it to a brick
-pub record FileInvariant (count top : ℕ) (places : ℕ → ℕ → ℕ) (v : FileView) (tree : Option (List ℕ)) : Type 0 where
+-- no brick has the file's hop above top; places says
+-- up to where each client has copied it to a brick
+pub record FileInvariant (count top : ℕ) (places : ℕ → ℕ → ℕ) (v : FileView)
+    (tree : Option (List ℕ)) : Type 0 where
   pub shape : FileShape
   pub records : RecordsAs count v.records shape
   pub low : (k : ℕ) → top_hop shape ≡ Some k → k ≤ top
@@ -85,7 +91,9 @@ pub record FileInvariant (count top : ℕ) (places : ℕ → ℕ → ℕ) (v : F
   pub points : PointsOn count v shape
   -- a sealed file has no name and no registration
   pub sealed : v.sealed ≡ true → NoLink count v × NoCopy count v × (v.opened ≡ 0)
-  -- the bytes of a file that has a name or is open are the tree's; so are those of each file of the tree that has bytes
+  -- the bytes of a file that has a name or is open are the
+  -- tree's; so are those of each file of the tree that has bytes
   pub truth : HasName count v → bytes_shown shape ≡ tree
   pub opened : 0 < v.opened → (bytes_shown shape ≡ tree) × (tree ≢ None)
-  pub kept : (bytes shown : List ℕ) → tree ≡ Some bytes → bytes_shown shape ≡ Some shown → shown ≡ bytes
+  pub kept :
+      (bytes shown : List ℕ) → tree ≡ Some bytes → bytes_shown shape ≡ Some shown → shown ≡ bytes

@@ -5,8 +5,8 @@ use Rattle.dht_types.specs.declared.errors.Errno.{Errno}
 use Rattle.dht_types.specs.declared.identifiers.Gfid.{Gfid}
 use Rattle.dht_section.specs.declared.machine.Finish.{Finish}
 
--- it is done, or this file or directory was made, at the line at which the tree changed; or it is refused, at
--- this line
+-- it is done, or this file or directory was made, at the line
+-- at which the tree changed; or it is refused, at this line
 abbrev pub done_at : ℕ → Finish
 done_at at = record { answer = Done; at = Some at }
 

@@ -9,15 +9,15 @@ use Rattle.dht_section.specs.Scene.{Scene}
 use Rattle.dht_section.specs.Truth.{Placed}
 use Rattle.dht_section.specs.declared.machine.Finish.{Finish}
 
--- the call is the lookup of this name, the first call of its client since the volume was mounted, and
--- the only one in its span so far
+-- the call is the lookup of this name, the first call of its client
+-- since the volume was mounted, and the only one in its span so far
 pub record IsFirstLookup (s : History) (r : PendingCall) (e : Entry) : Type 0 where
   pub looks_up : r.call ≡ Lookup e.0 e.1
   pub first : r.is_first ≡ true
   pub alone : IsAlone s r
 
--- where such a call answers a file, and the name is placed, it took one step more than there are bricks
--- at most
+-- where such a call answers a file, and the name is placed,
+-- it took one step more than there are bricks at most
 abbrev pub FindsSoon : Finish → Scene → Type 0
 FindsSoon f s =
     (e : Entry) (g : Gfid) → IsFirstLookup s.history s.mine e → f.answer ≡ File g → Placed s.disk e

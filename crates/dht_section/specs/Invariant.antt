@@ -19,8 +19,8 @@ use Rattle.dht_section.specs.Locks.{LockInvariant}
 use Rattle.dht_section.specs.Names.{NameInvariant}
 use Rattle.dht_section.specs.Views.{cores_of, view_of, dir_view}
 
--- the gfid is of something: a file or directory of the tree, a directory that was one, or one of which a
--- brick has a record or a seal
+-- the gfid is of something: a file or directory of the tree, a directory
+-- that was one, or one of which a brick has a record or a seal
 pub data Used (d : Disk) (t : Tree) (g : Gfid) : Type 0 where
   ByBytes : t.bytes g ≢ None → Used d t g
   ByDir : t.dirs g ≡ true → Used d t g
@@ -62,7 +62,8 @@ pub record Invariant (d : Disk) (s : History) (claims : ℕ → Claim) : Type 0 
   pub tree : IsTree s.tree
   pub counts : CallsCounted s
   pub point : s.past s.size ≡ s.tree
-  -- each gfid of this run was made by a call that was accepted, and by none that has done nothing yet
+  -- each gfid of this run was made by a call that was
+  -- accepted, and by none that has done nothing yet
   pub known : (g : Gfid) (c : ClientNo) (k : CallNo)
       → k.0 < 2 ^ 64 → Used d s.tree g → IsOwn s.run c k g → k.0 ≤ s.calls
   pub fresh : NothingUsed d s

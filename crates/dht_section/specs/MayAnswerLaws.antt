@@ -26,7 +26,9 @@ or_true true b e = refl
 or_true false b e = absurd (let z : false ≡ true = e in cc)
 
 -- and after a request of one's own that does no step
-pub may_answer_moved : (f : Finish) (s t : Scene) (a : Ask) (r : Reply) → t.mine.deeds ≡ s.mine.deeds → Guarantee s a r t → MayAnswer f s → MayAnswer f t
+pub may_answer_moved :
+    (f : Finish) (s t : Scene) (a : Ask) (r : Reply) → t.mine.deeds ≡ s.mine.deeds
+    → Guarantee s a r t → MayAnswer f s → MayAnswer f t
 may_answer_moved f s t a r e m h = answers_kept s.history t.history s.mine t.mine f.at f.answer (record {
   since = m.mine.since;
   call = m.mine.call;

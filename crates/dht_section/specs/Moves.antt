@@ -55,7 +55,9 @@ deeds_by s line (Some step) = Some (deeds_after s.history.tree line s.mine.call 
 
 -- what my request comes to: the bricks know a replay's volume
 abbrev pub outcome_of : Scene → Ask → Outcome Contents
-outcome_of s a = row (replay_names (length s.history.weights)) s.who s.mine.number a.request (s.disk.brick a.brick.0)
+outcome_of s a =
+    row (replay_names (length s.history.weights)) s.who s.mine.number a.request
+    (s.disk.brick a.brick.0)
 
 abbrev pub IsUnlock : Request → Type 0
 IsUnlock (Unlock key) = Unit {0}
@@ -67,7 +69,8 @@ seen_of true real = Down
 seen_of false real = real
 
 -- what my own call has been told and has done, after a reply
-pub record CallAfter (x : PendingCall) (seen : Reply) (deeds : Option Deeds) (y : PendingCall) : Type 0 where
+pub record CallAfter (x : PendingCall) (seen : Reply) (deeds : Option Deeds) (y : PendingCall)
+    : Type 0 where
   pub number : y.number ≡ x.number
   pub call : y.call ≡ x.call
   pub since : y.since ≡ x.since
@@ -78,7 +81,8 @@ pub record CallAfter (x : PendingCall) (seen : Reply) (deeds : Option Deeds) (y 
   pub has_failed : y.has_failed ≡ (x.has_failed || is_failed (reply_kind seen))
   pub deeds_are : y.deeds ≡ deeds
 
--- one brick answered my request, by its row or not at all, and I saw this reply; its lines were written
+-- one brick answered my request, by its row or not at
+-- all, and I saw this reply; its lines were written
 pub record Guarantee (s : Scene) (a : Ask) (r : Reply) (t : Scene) : Type 0 where
   pub real : Reply
   pub cut : Bool
@@ -90,7 +94,8 @@ pub record Guarantee (s : Scene) (a : Ask) (r : Reply) (t : Scene) : Type 0 wher
   pub unlocked : IsUnlock a.request → (cut ≡ false) × (is_carried (reply_kind real) ≡ true)
   pub claims : t.claims ≡ s.claims
   pub who : t.who ≡ s.who
-  pub mine : CallAfter s.mine r (deeds_by s t.history.size (step_of a.brick.0 a.request real)) t.mine
+  pub mine :
+      CallAfter s.mine r (deeds_by s t.history.size (step_of a.brick.0 a.request real)) t.mine
   pub tree : t.history.tree ≡ tree_by (step_of a.brick.0 a.request real) s.history.tree
   pub run : t.history.run ≡ s.history.run
   pub weights : t.history.weights ≡ s.history.weights

@@ -26,7 +26,9 @@ comes_from_stable o s t h x = record {
   small = h.small;
 }
 
-pub comes_from_moved : (o : Origin) (s t : Scene) (a : Ask) (r : Reply) → ComesFrom o s → Guarantee s a r t → ComesFrom o t
+pub comes_from_moved :
+    (o : Origin) (s t : Scene) (a : Ask) (r : Reply) → ComesFrom o s → Guarantee s a r t
+    → ComesFrom o t
 comes_from_moved o s t a r h m = record {
   run = h.run ∙ sym m.run;
   client = h.client ∙ sym m.who;
@@ -35,7 +37,9 @@ comes_from_moved o s t a r h m = record {
 }
 
 -- its gfid is the call's own
-pub origin_own : (o : Origin) (b : ℕ) (s : Scene) → b < 65536 → ComesFrom o s → IsOwn s.history.run s.who s.mine.number (origin_gfid o b)
+pub origin_own :
+    (o : Origin) (b : ℕ) (s : Scene) → b < 65536 → ComesFrom o s
+    → IsOwn s.history.run s.who s.mine.number (origin_gfid o b)
 origin_own o b s l h = (
   b,
   l,
@@ -45,7 +49,9 @@ origin_own o b s l h = (
 )
 
 -- and of nothing yet, while the call has done no step
-pub origin_unused : (o : Origin) (b : ℕ) (s : Scene) → Sound s → b < s.disk.count → s.mine.deeds ≡ None → ComesFrom o s → IsUnused s (origin_gfid o b)
+pub origin_unused :
+    (o : Origin) (b : ℕ) (s : Scene) → Sound s → b < s.disk.count → s.mine.deeds ≡ None
+    → ComesFrom o s → IsUnused s (origin_gfid o b)
 origin_unused o b s sound l deeds h = sound.kept.fresh s.who s.mine (origin_gfid o b) (subst (λ (k : CallNo). k.0 < 2 ^ 64) h.number h.small) sound.runs deeds (origin_own o b s (let few = sound.kept.few in omega arith) h)
 
 -- its home is this brick
@@ -56,7 +62,9 @@ home_by g b other e = by (g.0 == 1) refl
     by true k = absurd (other (λ i. record { 0 = (let q : g.0 ≡ 1 = grind (arith, nat_tests, k) in q) i }))
     by false k = ap (λ (v : Bool). if v then 0 else g.0 % 65536) k ∙ e
 
-pub origin_home : (o : Origin) (b : ℕ) (s : Scene) → Sound s → b < s.disk.count → s.mine.deeds ≡ None → ComesFrom o s → home (origin_gfid o b) ≡ b
+pub origin_home :
+    (o : Origin) (b : ℕ) (s : Scene) → Sound s → b < s.disk.count → s.mine.deeds ≡ None
+    → ComesFrom o s → home (origin_gfid o b) ≡ b
 origin_home o b s sound l deeds h = home_by (origin_gfid o b) b not_root (low b (let few = sound.kept.few in omega arith))
   where
     not_root : origin_gfid o b ≢ root

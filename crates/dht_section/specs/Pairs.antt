@@ -1,5 +1,5 @@
--- The section of a name that is a directory's: that directory's lock is taken alone, beside the lock of
--- the directory in which the name stands.
+-- The section of a name that is a directory's: that directory's lock is
+-- taken alone, beside the lock of the directory in which the name stands.
 use Rattle.std.specs.Prelude.{ℕ, ◌≡◌, nat_lt, if◌then◌else◌, List, [], ◌∷◌, length}
 use Rattle.dht_types.specs.declared.identifiers.Gfid.{Gfid}
 use Rattle.dht_types.specs.declared.locks.Key.TheVariants.{Dir, Entry as Name}
@@ -34,7 +34,8 @@ abbrev pub aimed_scope : Scoped → Gfid → Scoped
 aimed_scope w g = record {
   bricks = w.bricks;
   dirs = with_at w.dirs 1 (g, Exclusive);
-  keys = with_at (with_at w.keys 0 (Dir (lower (name_at w 0).0 g))) 1 (Dir (upper (name_at w 0).0 g));
+  keys =
+      with_at (with_at w.keys 0 (Dir (lower (name_at w 0).0 g))) 1 (Dir (upper (name_at w 0).0 g));
   names = w.names;
 }
 

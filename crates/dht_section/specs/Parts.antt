@@ -8,7 +8,8 @@ use Rattle.dht_section.specs.Scene.{Scene, MayAnswer, fault_finish}
 use Rattle.dht_section.specs.Stages.{Stage, Ending, MatchTurn}
 use Rattle.dht_section.specs.declared.machine.Turn.{Turn}
 
--- where a program is whose part is at this stage, with so many requests after the part, and this known beside
+-- where a program is whose part is at this stage, with
+-- so many requests after the part, and this known beside
 abbrev pub as_part : Stage → ℕ → (Scene → Type 0) → Stage
 as_part x more Beside = record {
   asks = x.asks;
@@ -17,7 +18,8 @@ as_part x more Beside = record {
   knows = λ s. x.knows s × Beside s;
 }
 
--- a part ends under these locks, and then this is true; or a brick's error ended it, and the call may answer that
+-- a part ends under these locks, and then this is true; or
+-- a brick's error ended it, and the call may answer that
 abbrev pub part_ending : List Lock → (Scene → Type 0) → Option Errno → Ending
 part_ending locks Earned fault = record {
   claims = claims_locks locks;

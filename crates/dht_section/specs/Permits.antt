@@ -52,7 +52,8 @@ HasDepth s b d n g depth =
 abbrev pub IsPlannedAt : Scene → ℕ → Gfid → Option (List ℕ) → Type 0
 IsPlannedAt s b g value = range_of_value value ≡ slice_index_or (planned s.history.weights g) b None
 
--- or none, and has a value's length; and who does not hold the directory alone adds to planned ranges
+-- or none, and has a value's length; and who does not
+-- hold the directory alone adds to planned ranges
 abbrev pub MayRange : Scene → ℕ → Gfid → Option (List ℕ) → Type 0
 MayRange s b g value =
     ((range_of_value value ≡ None) ⊎ IsPlannedAt s b g value)

@@ -17,7 +17,8 @@ brick_at : (x : Orphan) (n : ℕ) → 0 < n → n ≡ x.bricks → reap_brick x 
 brick_at x n h e = grind (arith, nat_tests, ap (anchor x.file) e)
 
 -- it seals at the file's anchor
-pub reap_brick_is : (x : Orphan) (s : Scene) → Sound s → IsOrphan x s → reap_brick x ≡ anchor x.file s.disk.count
+pub reap_brick_is :
+    (x : Orphan) (s : Scene) → Sound s → IsOrphan x s → reap_brick x ≡ anchor x.file s.disk.count
 reap_brick_is x s sound h = brick_at x s.disk.count sound.kept.some_brick (sound.kept.counted ∙ h.bricks)
 
 anchor_within : (g : Gfid) (n : ℕ) → 0 < n → anchor g n < n

@@ -83,7 +83,8 @@ pub record Rely (s t : Scene) : Type 0 where
   pub outlines : (e : Entry) (b : ℕ) (f : Gfid)
       → Guards s e → b < s.disk.count → links_to f (slot_at s.disk b e) ≡ true
       → outline (file_at t.disk b f) ≡ outline (file_at s.disk b f)
-  -- a directory that I hold stays, with its ranges; a copy may be added, whose range takes no hash from another
+  -- a directory that I hold stays, with its ranges; a copy
+  -- may be added, whose range takes no hash from another
   pub dirs : (g : Gfid) (b : ℕ) (r : DirRecord)
       → HoldsDir s g → dir_at s.disk b g ≡ Some r
       → (q : DirRecord) × (dir_at t.disk b g ≡ Some q) × CopyStays r q
@@ -95,7 +96,8 @@ pub record Rely (s t : Scene) : Type 0 where
   -- one that I hold alone, and whose name I hold, keeps its copies and gets none
   pub both : (e : Entry) (g : Gfid) (on : ℕ → Bool)
       → HoldsName s e → HoldsAlone s g → NameStands s e (Folder g on) → NameStands t e (Folder g on)
-  -- what needs no lock: ranges that are all planned stay so, and a directory stands where it was made
+  -- what needs no lock: ranges that are all planned
+  -- stay so, and a directory stands where it was made
   pub planned : (g : Gfid)
       → AllPlanned s.disk s.history.weights g → AllPlanned t.disk t.history.weights g
   pub made : (g : Gfid) (x : Descent)

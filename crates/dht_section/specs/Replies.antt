@@ -28,7 +28,8 @@ abbrev pub file_shown : Reply → Option Gfid
 file_shown (Carried (Look look)) = file_in look.slot
 file_shown r = None
 
--- the range of the directory that a look or a directory's record shows; a brick that has no record of the directory has no range of it
+-- the range of the directory that a look or a directory's record shows;
+-- a brick that has no record of the directory has no range of it
 abbrev pub range_shown : Reply → Option Range
 range_shown (Carried (Look look)) = range_of_value look.value
 range_shown (Carried (Dirinfo info)) = range_of_value info.value

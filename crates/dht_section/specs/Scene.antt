@@ -1,5 +1,5 @@
--- What a client's program may speak of: the scene, the locks that it holds there, and how the names and
--- files that it guards stand.
+-- What a client's program may speak of: the scene, the locks that
+-- it holds there, and how the names and files that it guards stand.
 use Rattle.std.specs.Prelude.{ℕ, ◌≤◌, ◌≡◌, ◌⊎◌, true, Option, Some, None, is_some}
 use Rattle.dht_types.specs.Gfid.{Entry}
 use Rattle.dht_types.specs.Tree.{Fits}
@@ -21,7 +21,8 @@ use Rattle.dht_section.specs.Shapes.{NameShape, FileShape}
 use Rattle.dht_section.specs.Views.{cores_of, view_of}
 use Rattle.dht_section.specs.declared.machine.Finish.{Finish}
 
--- what a client's program may speak of: all bricks, the history, what every client's program claims, who it is, and its own call
+-- what a client's program may speak of: all bricks, the history,
+-- what every client's program claims, who it is, and its own call
 pub record Scene : Type 0 where
   pub disk : Disk
   pub history : History

@@ -47,13 +47,19 @@ use Rattle.dht_section.specs.declared.section.Unheld.TheVariants.{Gone, Stopped}
 -- ---- what it asks
 
 abbrev pub lock_ask : Scoped → ℕ → Ask
-lock_ask w i = record { brick = record { 0 = lock_brick w (key_at w i) }; request = Lock (key_at w i) (mode_of w (key_at w i)) }
+lock_ask w i = record {
+  brick = record { 0 = lock_brick w (key_at w i) };
+  request = Lock (key_at w i) (mode_of w (key_at w i));
+}
 
 abbrev pub look_ask : Scoped → ℕ → BrickNo → Ask
 look_ask w n b = record { brick = b; request = OnNames (Look (name_at w n).0 (name_at w n).1) }
 
 abbrev pub unlock_ask : Scoped → ℕ → Ask
-unlock_ask w i = record { brick = record { 0 = lock_brick w (key_at w i) }; request = Unlock (key_at w i) }
+unlock_ask w i = record {
+  brick = record { 0 = lock_brick w (key_at w i) };
+  request = Unlock (key_at w i);
+}
 
 -- the place of the last lock
 abbrev pub last_lock : Scoped → ℕ
@@ -124,8 +130,8 @@ pub record HasCopy (g : Gfid) (read : Option Range) (b : ℕ) (s : Scene) : Type
   pub there : is_some (dir_at s.disk b g) ≡ true
   pub same : bounds read ≡ bounds (range_at s.disk g b)
 
--- a brick, not the home, had no copy of a directory, not the root, so no range was read: it has none
--- still, or all ranges of the directory are planned
+-- a brick, not the home, had no copy of a directory, not the root, so no range
+-- was read: it has none still, or all ranges of the directory are planned
 pub record HadNoCopy (g : Gfid) (read : Option Range) (b : ℕ) (s : Scene) : Type 0 where
   pub below : g ≢ root
   pub away : b ≢ home g
@@ -205,7 +211,8 @@ pub record LockingKnows (w : Scoped) (i : ℕ) (looks : List Looked) (s : Scene)
   pub holds : AllHeld w i s
 
 -- all are, and the names below this one were looked at, and this one on the bricks below this brick
-pub record LookingKnows (w : Scoped) (looks : List Looked) (n : ℕ) (b : BrickNo) (x : Sight) (s : Scene) : Type 0 where
+pub record LookingKnows (w : Scoped) (looks : List Looked) (n : ℕ) (b : BrickNo) (x : Sight)
+    (s : Scene) : Type 0 where
   pub order : IsOrdered w
   pub fresh : IsFresh w s
   pub name : n < length w.names
@@ -268,7 +275,10 @@ scope_of_name bricks g mode n = record {
 }
 
 abbrev pub prepared_for : ℕ → Gfid → Mode → List ℕ → Prepared
-prepared_for bricks g mode n = record { scope = scope_of_name bricks g mode n; looks = not_looked ∷ [] }
+prepared_for bricks g mode n = record {
+  scope = scope_of_name bricks g mode n;
+  looks = not_looked ∷ [];
+}
 
 abbrev pub first_section : ℕ → Gfid → Mode → List ℕ → Section
 first_section bricks g mode n = begun (prepared_for bricks g mode n)
@@ -310,7 +320,10 @@ section_stage (Unlocking w i x) = unlocking_stage w i (unheld_earned w x)
 abbrev pub opened_ending : Opened → Ending
 opened_ending (Holding h) = record { claims = all_claimed h.scope; earned = λ s. IsHeld h s }
 opened_ending (IsGone g at) = record { claims = no_claim; earned = λ s. WasGone g at s }
-opened_ending (IsStopped e) = record { claims = no_claim; earned = λ s. MayAnswer (fault_finish e) s }
+opened_ending (IsStopped e) = record {
+  claims = no_claim;
+  earned = λ s. MayAnswer (fault_finish e) s;
+}
 
 -- ---- how a reply takes it on
 
@@ -357,7 +370,8 @@ looked w looks n b x at =
 abbrev pub shows_gone : Gfid → BrickNo → Reply → Bool
 shows_gone g b r = is_nodir r && nat_eq b.0 (home g)
 
-abbrev pub look_answered : Scoped → List Looked → ℕ → BrickNo → Sight → Reply → ℕ → Turn Section Opened
+abbrev pub look_answered :
+    Scoped → List Looked → ℕ → BrickNo → Sight → Reply → ℕ → Turn Section Opened
 look_answered w looks n b x r at =
     if shows_gone (name_at w n).0 b r
     then Go (Unlocking w (last_lock w) (Gone (name_at w n).0 at))

@@ -41,7 +41,9 @@ use Rattle.dht_section.specs.declared.section.Unheld.TheVariants.{Gone, Stopped}
 
 -- ---- where locks stand
 
-brick_at : (w : Scoped) (key : Key) (n : ℕ) → 0 < n → n ≡ w.bricks → lock_brick w key ≡ anchor (dir_of key) n
+brick_at :
+    (w : Scoped) (key : Key) (n : ℕ) → 0 < n → n ≡ w.bricks
+    → lock_brick w key ≡ anchor (dir_of key) n
 brick_at w key n h e = grind (arith, nat_tests, ap (anchor (dir_of key)) e)
 
 anchor_within : (g : Gfid) (n : ℕ) → 0 < n → anchor g n < n
@@ -50,22 +52,28 @@ anchor_within g n h = omega arith
 pub bricks_are : (w : Scoped) (s : Scene) → Sound s → HasScope w s → s.disk.count ≡ w.bricks
 bricks_are w s sound h = sound.kept.counted ∙ h.bricks
 
-pub lock_brick_is : (w : Scoped) (key : Key) (s : Scene) → Sound s → HasScope w s → lock_brick w key ≡ anchor (dir_of key) s.disk.count
+pub lock_brick_is :
+    (w : Scoped) (key : Key) (s : Scene) → Sound s → HasScope w s
+    → lock_brick w key ≡ anchor (dir_of key) s.disk.count
 lock_brick_is w key s sound h = brick_at w key s.disk.count sound.kept.some_brick (bricks_are w s sound h)
 
-pub lock_brick_within : (w : Scoped) (key : Key) (s : Scene) → Sound s → HasScope w s → lock_brick w key < s.disk.count
+pub lock_brick_within :
+    (w : Scoped) (key : Key) (s : Scene) → Sound s → HasScope w s → lock_brick w key < s.disk.count
 lock_brick_within w key s sound h =
     let e = lock_brick_is w key s sound h in
     let w = anchor_within (dir_of key) s.disk.count sound.kept.some_brick in
     omega arith
 
-stands_by : (b count : ℕ) (key : Key) → IsGuard key → b ≡ anchor (dir_of key) count → StandsOn count b key
+stands_by :
+    (b count : ℕ) (key : Key) → IsGuard key → b ≡ anchor (dir_of key) count → StandsOn count b key
 stands_by b count (Dir g) k e = e
 stands_by b count (Name g n) k e = e
 stands_by b count Rebalance k e = absurd k
 stands_by b count (Content f) k e = absurd k
 
-pub stands_on : (w : Scoped) (key : Key) (s : Scene) → Sound s → HasScope w s → IsGuard key → StandsOn s.disk.count (lock_brick w key) key
+pub stands_on :
+    (w : Scoped) (key : Key) (s : Scene) → Sound s → HasScope w s → IsGuard key
+    → StandsOn s.disk.count (lock_brick w key) key
 stands_on w key s sound h k = stands_by (lock_brick w key) s.disk.count key k (lock_brick_is w key s sound h)
 
 -- ---- what is claimed
@@ -75,7 +83,9 @@ unfolding claimed
 claimed_more w i = refl
 
 -- a key that is above each of the first ones
-all_below : (w : Scoped) (key : Key) (i : ℕ) → ((j : ℕ) → j < i → is_lt (rank_cmp (key_at w j) key) ≡ true) → IsAbove key (claimed w i)
+all_below :
+    (w : Scoped) (key : Key) (i : ℕ) → ((j : ℕ) → j < i → is_lt (rank_cmp (key_at w j) key) ≡ true)
+    → IsAbove key (claimed w i)
 unfolding claimed
 all_below w key zero h = tt
 all_below w key (suc i) h = (h i (omega arith), all_below w key i (λ j l. h j (omega arith)))
@@ -115,7 +125,9 @@ pub fresh_stable : (w : Scoped) (s t : Scene) → IsFresh w s → Rely s t → I
 fresh_stable w s t h o = record { scope = scope_stable w s t h.scope o; deeds = o.mine.deeds ∙ h.deeds }
 
 -- a lock is held as it was
-pub lock_stable : (s t : Scene) (g : Gfid) (key : Key) → Rely s t → lock_at t.disk g key t.who ≡ lock_at s.disk g key s.who
+pub lock_stable :
+    (s t : Scene) (g : Gfid) (key : Key) → Rely s t
+    → lock_at t.disk g key t.who ≡ lock_at s.disk g key s.who
 lock_stable s t g key o =
     ap (λ c. lock_at t.disk g key c) o.who
     ∙ (ap (λ (n : ℕ). holders t.disk (anchor g n) key s.who.0) o.count ∙ o.locks (anchor g s.disk.count) key)
@@ -124,7 +136,9 @@ pub held_stable : (w : Scoped) (i : ℕ) (s t : Scene) → AllHeld w i s → Rel
 held_stable w i s t h o j l = lock_stable s t (dir_of (key_at w j)) (key_at w j) o ∙ h j l
 
 -- where all locks are held, the lock of each name is, and that of its directory
-pub holds_name : (w : Scoped) (n : ℕ) (s : Scene) → IsOrdered w → n < length w.names → AllHeld w (length w.keys) s → HoldsName s (name_at w n)
+pub holds_name :
+    (w : Scoped) (n : ℕ) (s : Scene) → IsOrdered w → n < length w.names
+    → AllHeld w (length w.keys) s → HoldsName s (name_at w n)
 holds_name w n s order l h =
     let name = order.named n l in
     let dir = order.housed n l in
@@ -134,7 +148,9 @@ holds_name w n s order l h =
     }
 
 -- a copy of a directory that I hold stays, with its range
-pub copy_stable : (g : Gfid) (read : Option Range) (b : ℕ) (s t : Scene) (o : Option DirRecord) → dir_at s.disk b g ≡ o → HoldsDir s g → HasCopy g read b s → Rely s t → HasCopy g read b t
+pub copy_stable :
+    (g : Gfid) (read : Option Range) (b : ℕ) (s t : Scene) (o : Option DirRecord)
+    → dir_at s.disk b g ≡ o → HoldsDir s g → HasCopy g read b s → Rely s t → HasCopy g read b t
 copy_stable g read b s t None e holds h o = absurd (let z : false ≡ true = ap is_some (sym e) ∙ h.there in cc)
 copy_stable g read b s t (Some r) e holds h o =
     let q = o.dirs g b r holds e in
@@ -144,7 +160,9 @@ copy_stable g read b s t (Some r) e holds h o =
     }
 
 -- where all ranges of it are planned, they stay so: a copy that is added has a planned one
-planned_stable : (g : Gfid) (s t : Scene) → HoldsDir s g → AllPlanned s.disk s.history.weights g → Rely s t → AllPlanned t.disk t.history.weights g
+planned_stable :
+    (g : Gfid) (s t : Scene) → HoldsDir s g → AllPlanned s.disk s.history.weights g → Rely s t
+    → AllPlanned t.disk t.history.weights g
 planned_stable g s t holds h o b r l e = by (dir_at s.disk b g) refl
   where
     by : (x : Option DirRecord) → dir_at s.disk b g ≡ x → (bounds (range_of (Some r)) ≡ None) ⊎ (bounds (range_of (Some r)) ≡ bounds (slice_index_or (planned t.history.weights g) b None))
@@ -158,14 +176,18 @@ planned_stable g s t holds h o b r l e = by (dir_at s.disk b g) refl
         ]
 
 -- a brick that had no copy has none, or it was added with a planned range
-still_none : (g : Gfid) (b : ℕ) (s t : Scene) → HoldsDir s g → dir_at s.disk b g ≡ None → Rely s t → (dir_at t.disk b g ≡ None) ⊎ AllPlanned t.disk t.history.weights g
+still_none :
+    (g : Gfid) (b : ℕ) (s t : Scene) → HoldsDir s g → dir_at s.disk b g ≡ None → Rely s t
+    → (dir_at t.disk b g ≡ None) ⊎ AllPlanned t.disk t.history.weights g
 still_none g b s t holds h o = by (dir_at t.disk b g) refl
   where
     by : (x : Option DirRecord) → dir_at t.disk b g ≡ x → (dir_at t.disk b g ≡ None) ⊎ AllPlanned t.disk t.history.weights g
     by None e = inl e
     by (Some r) e = inr (o.added g b r holds h e)
 
-no_copy_stable : (g : Gfid) (read : Option Range) (b : ℕ) (s t : Scene) → HoldsDir s g → HadNoCopy g read b s → Rely s t → HadNoCopy g read b t
+no_copy_stable :
+    (g : Gfid) (read : Option Range) (b : ℕ) (s t : Scene) → HoldsDir s g → HadNoCopy g read b s
+    → Rely s t → HadNoCopy g read b t
 no_copy_stable g read b s t holds h o = record {
   below = h.below;
   away = h.away;
@@ -176,11 +198,14 @@ no_copy_stable g read b s t holds h o = record {
   ];
 }
 
-read_stable : (g : Gfid) (mark : Bool) (read : Option Range) (b : ℕ) (s t : Scene) → HoldsDir s g → ReadAt g mark read b s → Rely s t → ReadAt g mark read b t
+read_stable :
+    (g : Gfid) (mark : Bool) (read : Option Range) (b : ℕ) (s t : Scene) → HoldsDir s g
+    → ReadAt g mark read b s → Rely s t → ReadAt g mark read b t
 read_stable g true read b s t holds h o = copy_stable g read b s t (dir_at s.disk b g) refl holds h o
 read_stable g false read b s t holds h o = no_copy_stable g read b s t holds h o
 
-pub reads_stable : (g : Gfid) (x : Sight) (s t : Scene) → HoldsDir s g → Reads g x s → Rely s t → Reads g x t
+pub reads_stable :
+    (g : Gfid) (x : Sight) (s t : Scene) → HoldsDir s g → Reads g x s → Rely s t → Reads g x t
 reads_stable g x s t holds h o b l = read_stable g (mark_at x.copies b) (slice_index_or x.layout b None) b s t holds (h b l) o
 
 saw_at_stable : (e : Entry) (x : Looked) (s t : Scene) → SawAt e x s → Rely s t → SawAt e x t
@@ -200,7 +225,10 @@ saw_at_stable e x s t h o =
     }
 
 -- the core of a name's slot, by how it stands
-pub same_core : (e : Entry) (h : NameShape) (s t : Scene) (b : ℕ) → t.disk.count ≡ s.disk.count → b < s.disk.count → NameStands s e h → NameStands t e h → core (slot_at t.disk b e) ≡ core (slot_at s.disk b e)
+pub same_core :
+    (e : Entry) (h : NameShape) (s t : Scene) (b : ℕ) → t.disk.count ≡ s.disk.count
+    → b < s.disk.count → NameStands s e h → NameStands t e h
+    → core (slot_at t.disk b e) ≡ core (slot_at s.disk b e)
 same_core e h s t b count l k q = q.has b (omega arith) ∙ sym (k.has b l)
 
 -- the hop of a record, by its outline
@@ -219,7 +247,10 @@ hop_by (Some (stored.Moving hop t bytes)) = refl
 hop_by (Some (stored.Standby c)) = refl
 hop_by (Some (stored.Forward hop brick)) = refl
 
-what_stable : (e : Entry) (what : What) (hop : ℕ) (h : NameShape) (s t : Scene) → HoldsName s e → NameStands s e h → NameStands t e h → WhatShown e what hop s → Rely s t → WhatShown e what hop t
+what_stable :
+    (e : Entry) (what : What) (hop : ℕ) (h : NameShape) (s t : Scene) → HoldsName s e
+    → NameStands s e h → NameStands t e h → WhatShown e what hop s → Rely s t
+    → WhatShown e what hop t
 what_stable e Absent hop h s t holds k q x o = tt
 what_stable e (Directory g) hop h s t holds k q x o = tt
 what_stable e (File f b links) hop h s t holds k q x o =
@@ -232,7 +263,9 @@ what_stable e (File f b links) hop h s t holds k q x o =
       moved = x.moved ∙ (hop_by (file_at s.disk b.0 f) ∙ (ap outline_hop (sym (o.outlines e b.0 f (inl holds) x.there x.link)) ∙ sym (hop_by (file_at t.disk b.0 f))));
     }
 
-pub shown_stable : (e : Entry) (x : Sight) (limit : ℕ) (h : NameShape) (s t : Scene) → HoldsName s e → NameStands s e h → NameStands t e h → Shown e x limit s → Rely s t → Shown e x limit t
+pub shown_stable :
+    (e : Entry) (x : Sight) (limit : ℕ) (h : NameShape) (s t : Scene) → HoldsName s e
+    → NameStands s e h → NameStands t e h → Shown e x limit s → Rely s t → Shown e x limit t
 shown_stable e x limit h s t holds k q w o = record {
   room = w.room;
   bricks = λ b l. (let p = w.bricks b l in
@@ -248,29 +281,39 @@ shown_stable e x limit h s t holds k q w o = record {
 }
 
 -- a name that stands nowhere, or as a file on one brick, stays so
-pub found_grows : (found : Option Place) (k : NameShape) → Grows (found_shape found) k → k ≡ found_shape found
+pub found_grows :
+    (found : Option Place) (k : NameShape) → Grows (found_shape found) k → k ≡ found_shape found
 found_grows None k h = h
 found_grows (Some p) k h = h
 
-pub stands_stable : (e : Entry) (found : Option Place) (s t : Scene) → HoldsName s e → NameStands s e (found_shape found) → Rely s t → NameStands t e (found_shape found)
+pub stands_stable :
+    (e : Entry) (found : Option Place) (s t : Scene) → HoldsName s e
+    → NameStands s e (found_shape found) → Rely s t → NameStands t e (found_shape found)
 stands_stable e found s t holds h o =
     let q = o.names e (found_shape found) (inl holds) h in
     subst (λ (k : NameShape). NameStands t e k) (found_grows found q.0 q.1) q.2
 
 -- what was seen at it stands, and a directory has got copies at most
-pub seen_stable : (e : Entry) (what : What) (s t : Scene) → HoldsName s e → StandsSeen e what s → Rely s t → StandsSeen e what t
+pub seen_stable :
+    (e : Entry) (what : What) (s t : Scene) → HoldsName s e → StandsSeen e what s → Rely s t
+    → StandsSeen e what t
 seen_stable e Absent s t holds h o = stands_stable e None s t holds h o
 seen_stable e (Directory g) s t holds h o =
     let q = o.names e (Folder g h.0) (inl holds) h.1 in
     (q.1.0, subst (λ (k : NameShape). NameStands t e k) q.1.1 q.2)
 seen_stable e (File f b links) s t holds h o = stands_stable e (Some (record { brick = b; file = f })) s t holds h o
 
-pub shown_of_stable : (e : Entry) (what : What) (x : Sight) (limit : ℕ) (s t : Scene) → HoldsName s e → StandsSeen e what s → StandsSeen e what t → ShownOf what e x limit s → Rely s t → ShownOf what e x limit t
+pub shown_of_stable :
+    (e : Entry) (what : What) (x : Sight) (limit : ℕ) (s t : Scene) → HoldsName s e
+    → StandsSeen e what s → StandsSeen e what t → ShownOf what e x limit s → Rely s t
+    → ShownOf what e x limit t
 shown_of_stable e Absent x limit s t holds k q w o = shown_stable e x limit Bare s t holds k q w o
 shown_of_stable e (Directory g) x limit s t holds k q w o = w
 shown_of_stable e (File f b links) x limit s t holds k q w o = shown_stable e x limit (Plain b.0 f) s t holds k q w o
 
-pub looked_stable : (bricks : ℕ) (e : Entry) (x : Looked) (s t : Scene) → HoldsName s e → IsLooked bricks e x s → Rely s t → IsLooked bricks e x t
+pub looked_stable :
+    (bricks : ℕ) (e : Entry) (x : Looked) (s t : Scene) → HoldsName s e → IsLooked bricks e x s
+    → Rely s t → IsLooked bricks e x t
 looked_stable bricks e x s t holds h o =
     let stands = seen_stable e x.sight.what s t holds h.stands o in
     record {
@@ -294,11 +337,14 @@ gone_stable g at s t h o =
       gone = ap (λ (p : Tree). p.dirs g) (o.past at h.before) ∙ h.gone;
     }
 
-pub unheld_stable : (w : Scoped) (x : Unheld) (s t : Scene) → unheld_earned w x s → Rely s t → unheld_earned w x t
+pub unheld_stable :
+    (w : Scoped) (x : Unheld) (s t : Scene) → unheld_earned w x s → Rely s t → unheld_earned w x t
 unheld_stable w (Gone g at) s t h o = (h.0, gone_stable g at s t h.1 o)
 unheld_stable w (Stopped e) s t h o = may_answer_stable (fault_finish e) s t h o
 
-pub unlocking_stable : (w : Scoped) (i : ℕ) (earned : Scene → Type 0) → ((s t : Scene) → earned s → Rely s t → earned t) → IsStable (unlocking_stage w i earned)
+pub unlocking_stable :
+    (w : Scoped) (i : ℕ) (earned : Scene → Type 0)
+    → ((s t : Scene) → earned s → Rely s t → earned t) → IsStable (unlocking_stage w i earned)
 unlocking_stable w i earned stays s t h o = record {
   order = h.order;
   scope = scope_stable w s t h.scope o;

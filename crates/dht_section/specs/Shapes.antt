@@ -82,7 +82,8 @@ node_of (Standing x g) = Some (IsFile g)
 node_of (Copied b f t) = Some (IsFile f)
 node_of (Committed t f) = Some (IsFile f)
 
--- what others may make of a name that I guard: they may finish a committed move, and heal a directory
+-- what others may make of a name that I guard: they
+-- may finish a committed move, and heal a directory
 abbrev pub Grows : NameShape → NameShape → Type 0
 Grows (Folder g on) k =
     (more : ℕ → Bool) × (k ≡ Folder g more) × ((b : ℕ) → on b ≡ true → more b ≡ true)

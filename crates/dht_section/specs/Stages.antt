@@ -85,7 +85,8 @@ abbrev pub MatchTurn : {M D : Type 0} → Turn M D → (M → Type 0) → (D →
 MatchTurn (Go m) P Q = P m
 MatchTurn (Done d) P Q = Q d
 
--- whenever the request of this machine was answered so, it goes on from its stage to the next, or ends
+-- whenever the request of this machine was answered
+-- so, it goes on from its stage to the next, or ends
 abbrev pub Moves : {M D : Type 0} → (M → Stage) → (D → Ending) → M → Reply → ℕ → Turn M D → Type 0
 Moves stage ending m r at turn =
     (s t : Scene) → Served (stage m) r at s t
@@ -106,7 +107,8 @@ abbrev pub call_answered : Finish → Ending
 call_answered f = record { claims = no_claim; earned = λ s. MayAnswer f s × LeavesWhole f s }
 
 -- the same of a client: its call goes on, or the client is idle and the call has ended
-abbrev pub CallMoves : {C : Type 0} → (C → Bool) → (C → Stage) → (old new : C) → Reply → ℕ → Option Finish → Type 0
+abbrev pub CallMoves :
+    {C : Type 0} → (C → Bool) → (C → Stage) → (old new : C) → Reply → ℕ → Option Finish → Type 0
 CallMoves is_busy stage old new r at answer =
     (s t : Scene) → Served (stage old) r at s t
     → MatchOption answer ((is_busy new ≡ true) × GoesOn (stage old) (stage new) r t)

@@ -34,12 +34,14 @@ use Rattle.dht_section.specs.declared.sweep.Sweep.{Sweep}
 abbrev pub linkto_there : Disk → ℕ → Entry → Bool
 linkto_there d b e = is_linkto (slot_at d b e).main
 
--- a brick has its linkto still: one was seen there, and those of the bricks below a limit were dropped
+-- a brick has its linkto still: one was seen there,
+-- and those of the bricks below a limit were dropped
 abbrev pub is_left : List Linkto → ℕ → ℕ → Bool
 is_left linktos limit b = if nat_lt b limit then false else has_linkto (linkto_at linktos b)
 
 -- a name that is locked stands so, and the linktos from a limit on are left of those that were seen
-pub record IsLeft (l : Location) (found : Option Place) (linktos : List Linkto) (limit : ℕ) (s : Scene) : Type 0 where
+pub record IsLeft (l : Location) (found : Option Place) (linktos : List Linkto) (limit : ℕ)
+    (s : Scene) : Type 0 where
   pub bricks : s.disk.count ≡ l.bricks
   pub holds : HoldsName s (entry_at l)
   pub stands : NameStands s (entry_at l) (found_shape found)
@@ -74,7 +76,8 @@ pub record IsKept (l : Location) (h : Held) (s : Scene) : Type 0 where
 abbrev pub drop_ask : Location → BrickNo → Ask
 drop_ask l b = record { brick = b; request = OnNames (DropLinkto l.directory l.name) }
 
--- where it is between its requests, under the locks of the call that runs it, of a name that stands so
+-- where it is between its requests, under the locks
+-- of the call that runs it, of a name that stands so
 abbrev pub sweep_stage : List Lock → Option Place → Sweep → Stage
 sweep_stage locks found x = record {
   asks = drop_ask x.location x.brick;
@@ -96,7 +99,9 @@ lone_swept fault = part_ending [] (λ s. Unit {0}) fault
 unfoldable pub first_from : List Linkto → ℕ → ℕ → Option BrickNo
 first_from linktos b zero = None
 first_from linktos b (suc more) =
-    if has_linkto (linkto_at linktos b) then Some (record { 0 = b }) else first_from linktos (suc b) more
+    if has_linkto (linkto_at linktos b)
+    then Some (record { 0 = b })
+    else first_from linktos (suc b) more
 
 abbrev pub next_linkto : ℕ → List Linkto → ℕ → Option BrickNo
 next_linkto bricks linktos from = first_from linktos from (bricks - from)

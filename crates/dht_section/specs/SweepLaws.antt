@@ -23,7 +23,8 @@ use Rattle.dht_section.specs.declared.sweep.Sweep.{Sweep}
 -- ---- what it may ask
 
 -- a linkto is none of a name's shape, so the shape stays
-pub sweep_permitted : (locks : List Lock) (found : Option Place) (x : Sweep) → MaySend (sweep_stage locks found x)
+pub sweep_permitted :
+    (locks : List Lock) (found : Option Place) (x : Sweep) → MaySend (sweep_stage locks found x)
 sweep_permitted locks found x s sound h = record {
   there = let l = h.knows.there in let c = h.knows.name.bricks in omega arith;
   may = (
@@ -49,10 +50,16 @@ holds_stable e s t h o = record {
 }
 
 -- linktos of a name that is locked stay
-linkto_stable : (l : Location) (found : Option Place) (b : ℕ) (s t : Scene) → b < s.disk.count → HoldsName s (entry_at l) → Rattle.dht_section.specs.Scene.NameStands s (entry_at l) (found_shape found) → Rely s t → linkto_there t.disk b (entry_at l) ≡ linkto_there s.disk b (entry_at l)
+linkto_stable :
+    (l : Location) (found : Option Place) (b : ℕ) (s t : Scene) → b < s.disk.count
+    → HoldsName s (entry_at l)
+    → Rattle.dht_section.specs.Scene.NameStands s (entry_at l) (found_shape found) → Rely s t
+    → linkto_there t.disk b (entry_at l) ≡ linkto_there s.disk b (entry_at l)
 linkto_stable l found b s t there holds stands o = ap (λ (p : Slot). is_linkto p.main) (o.slots (entry_at l) b (inl holds) (same_core (entry_at l) (found_shape found) s t b o.count there stands (stands_stable (entry_at l) found s t holds stands o)))
 
-pub left_stable : (l : Location) (found : Option Place) (linktos : List Linkto) (limit : ℕ) (s t : Scene) → IsLeft l found linktos limit s → Rely s t → IsLeft l found linktos limit t
+pub left_stable :
+    (l : Location) (found : Option Place) (linktos : List Linkto) (limit : ℕ) (s t : Scene)
+    → IsLeft l found linktos limit s → Rely s t → IsLeft l found linktos limit t
 left_stable l found linktos limit s t h o =
     let c = h.bricks in
     record {
@@ -62,10 +69,13 @@ left_stable l found linktos limit s t h o =
       left = λ b k. linkto_stable l found b s t (omega arith) h.holds h.stands o ∙ h.left b k;
     }
 
-pub sweep_stable : (locks : List Lock) (found : Option Place) (x : Sweep) → IsStable (sweep_stage locks found x)
+pub sweep_stable :
+    (locks : List Lock) (found : Option Place) (x : Sweep) → IsStable (sweep_stage locks found x)
 sweep_stable locks found x s t h o = record { name = left_stable x.location found x.linktos x.brick.0 s t h.name o; there = h.there; seen = h.seen }
 
-pub swept_stable : (l : Location) (found : Option Place) (s t : Scene) → IsSwept l found s → Rely s t → IsSwept l found t
+pub swept_stable :
+    (l : Location) (found : Option Place) (s t : Scene) → IsSwept l found s → Rely s t
+    → IsSwept l found t
 swept_stable l found s t h o =
     let c = o.count in
     record {
@@ -76,7 +86,9 @@ swept_stable l found s t h o =
     }
 
 -- a section of the name that holds its locks holds the name
-pub holds_location : (l : Location) (w : Scoped) (s : Scene) → w ≡ scope_at l → IsOrdered w → AllHeld w (length w.keys) s → HoldsName s (entry_at l)
+pub holds_location :
+    (l : Location) (w : Scoped) (s : Scene) → w ≡ scope_at l → IsOrdered w
+    → AllHeld w (length w.keys) s → HoldsName s (entry_at l)
 holds_location l w s e order holds =
     let one : 0 < length w.names = subst (λ (v : Scoped). 0 < length v.names) (sym e) (omega arith) in
     subst (λ (x : Entry). HoldsName s x) (ap (λ (v : Scoped). name_at v 0) e) (holds_name w 0 s order one holds)

@@ -1,4 +1,5 @@
--- The truth of a name and of a file's bytes, told from all bricks, and that the bricks stand for a tree.
+-- The truth of a name and of a file's bytes, told from
+-- all bricks, and that the bricks stand for a tree.
 use Rattle.std.specs.Prelude.{ℕ, ◌<◌, ◌≡◌, ◌≢◌, ◌⊎◌, true, is_some, Option, Some, None, List}
 use Rattle.dht_types.specs.Gfid.{Entry, home, anchor}
 use Rattle.dht_types.specs.Tree.{Tree, Node, IsFile, IsDir}
@@ -26,10 +27,12 @@ pub record AllShow {A : Type 0} (count : ℕ) (shown : ℕ → Option A) (x : A)
   pub shows : shown brick ≡ Some x
   pub same : (b : ℕ) (y : A) → b < count → shown b ≡ Some y → y ≡ x
 
--- the truth is what main parts show, or else what standby parts do, or else nothing: there is none where several of a kind differ
+-- the truth is what main parts show, or else what standby parts do,
+-- or else nothing: there is none where several of a kind differ
 abbrev pub TruthIs : {A : Type 0} → ℕ → (main standby : ℕ → Option A) → Option A → Type 0
 TruthIs count main standby None = NoneShows count main × NoneShows count standby
-TruthIs count main standby (Some x) = AllShow count main x ⊎ (NoneShows count main × AllShow count standby x)
+TruthIs count main standby (Some x) =
+    AllShow count main x ⊎ (NoneShows count main × AllShow count standby x)
 
 -- what a name means: a file or a directory
 pub data Meaning : Type 0 where
@@ -56,7 +59,8 @@ meaning_of (Some (IsDir g)) = Some (ADirectory g)
 -- the truth of a name is this
 abbrev pub NameTruth : Disk → Entry → Option Node → Type 0
 NameTruth d e node =
-    TruthIs d.count (λ b. main_shows (slot_at d b e).main) (λ b. standby_shows (slot_at d b e).standby)
+    TruthIs d.count (λ b. main_shows (slot_at d b e).main)
+    (λ b. standby_shows (slot_at d b e).standby)
     (meaning_of node)
 
 -- the bytes of a live or moving record, and those of a copy: a forward shows none
@@ -85,7 +89,9 @@ pub data IsInUse (d : Disk) (t : Tree) (f : Gfid) : Type 0 where
   ByOpen : 0 < registrations (d.brick (anchor f d.count)).opens f → IsInUse d t f
   ByBytes : t.bytes f ≢ None → (b : ℕ) → b < d.count → HasBytes d b f → IsInUse d t f
 
--- the bricks stand for the tree: each name's truth is what the tree says of it, a directory is one of the tree exactly where its home brick has its record, and the truth of the bytes of each file in use is the tree's
+-- the bricks stand for the tree: each name's truth is what the tree says
+-- of it, a directory is one of the tree exactly where its home brick has
+-- its record, and the truth of the bytes of each file in use is the tree's
 pub record Stands (d : Disk) (t : Tree) : Type 0 where
   pub names : (e : Entry) → NameTruth d e (t.names e)
   pub dirs : (g : Gfid) → t.dirs g ≡ is_some (dir_at d (home g) g)
@@ -99,7 +105,8 @@ plain f = record { main = Some (File f None); standby = None }
 abbrev pub folder : Gfid → Slot
 folder g = record { main = Some (Dir g); standby = None }
 
--- a name stands once: on its holder, which has the live record of the name's file, and on no other brick
+-- a name stands once: on its holder, which has the live
+-- record of the name's file, and on no other brick
 pub record Placed (d : Disk) (e : Entry) : Type 0 where
   pub brick : ℕ
   pub there : brick < d.count

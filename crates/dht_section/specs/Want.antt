@@ -117,7 +117,8 @@ HasKey w key = (i : ℕ) × (i < length w.keys) × (key_at w i ≡ key)
 pub record IsOrdered (w : Scoped) : Type 0 where
   pub some : 0 < length w.keys
   pub kinds : (i : ℕ) → i < length w.keys → IsGuard (key_at w i)
-  pub above : (i j : ℕ) → i < j → j < length w.keys → is_lt (rank_cmp (key_at w i) (key_at w j)) ≡ true
+  pub above :
+      (i j : ℕ) → i < j → j < length w.keys → is_lt (rank_cmp (key_at w i) (key_at w j)) ≡ true
   pub named : (n : ℕ) → n < length w.names → HasKey w (name_key (name_at w n))
   pub housed : (n : ℕ) → n < length w.names → HasKey w (Dir (name_at w n).0)
 

@@ -1,5 +1,5 @@
--- What a call knows while it is alone: nothing changes but by its own requests. And what a section sees
--- of a directory that is whole.
+-- What a call knows while it is alone: nothing changes but by its own
+-- requests. And what a section sees of a directory that is whole.
 use Rattle.std.specs.Prelude.{ℕ, ◌<◌, ◌≡◌, ◌⊎◌, true, false, Some, List, length}
 use Rattle.dht_types.specs.declared.identifiers.Gfid.{Gfid}
 use Rattle.dht_section.specs.Healed.{IsWhole}
@@ -55,7 +55,8 @@ SeesWhole g m s = IfAlone (IsWholeOrGone g (ShowedSoFar g m)) s
 abbrev pub EndsWhole : Gfid → Opened → Scene → Type 0
 EndsWhole g out s = IfAlone (IsWholeOrGone g (ShowedOpened g out)) s
 
--- by the layout that was read a brick of the volume holds the name, and it showed its copy of the directory
+-- by the layout that was read a brick of the volume holds
+-- the name, and it showed its copy of the directory
 pub record HasHolder (l : Location) (h : Held) (s : Scene) : Type 0 where
   pub brick : ℕ
   pub there : brick < s.disk.count

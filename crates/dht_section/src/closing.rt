@@ -1,5 +1,5 @@
-//! The closing: the end of a call that holds a section. The locks are given back, the last first, and
-//! then the call answers.
+//! The closing: the end of a call that holds a section. The locks are given back, the last first,
+//! and then the call answers.
 
 ghost use Rattle.std.specs.Prelude.{◌≡◌};
 ghost use Rattle.dht_section.specs.Scene.{Scene, MayAnswer};

@@ -13,8 +13,8 @@ use dht_types::identifiers::Gfid;
 use dht_types::stored::Main;
 use dht_xattr::range::{Range, decode};
 
-/// The error that ends a call whose request was answered so, if it ends the call: the brick was down,
-/// failed, or had no memory for the request.
+/// The error that ends a call whose request was answered so, if it ends the call: the brick was
+/// down, failed, or had no memory for the request.
 pub fn fault_of(reply: &Reply) -> Option<Errno>
     ensures { result ≡ fault_of reply.now }
 {

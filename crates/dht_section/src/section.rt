@@ -1,5 +1,5 @@
-//! The section: the guarded part of a call. It takes the locks of a list of directories and names, in
-//! order, and then looks for each name on every brick.
+//! The section: the guarded part of a call. It takes the locks of a list of directories and names,
+//! in order, and then looks for each name on every brick.
 
 ghost use Rattle.std.specs.Prelude.{◌≡◌, ◌<◌, ℕ, List, Some, true, IfOk, option_map, replicate, length};
 ghost use Rattle.dht_types.specs.Gfid.{Entry, root};
@@ -48,8 +48,8 @@ pub enum Unheld {
 pub enum Section {
     /// The locks below this one are held. There is room for what will be seen of the names.
     Locking(Scope, usize, Looks),
-    /// All locks are held, the names below this one were looked at on all bricks, and this one on the
-    /// bricks below this brick.
+    /// All locks are held, the names below this one were looked at on all bricks, and this one on
+    /// the bricks below this brick.
     Looking(Scope, Looks, usize, BrickNo, Sight),
     /// The locks above this one, as far as they were asked for, were given back.
     Unlocking(Scope, usize, Unheld),
@@ -62,8 +62,8 @@ pub struct Prepared {
     pub looks: Looks,
 }
 
-/// All locks are held, and all names were looked at on all bricks. As long as the locks are held, each
-/// name stands so.
+/// All locks are held, and all names were looked at on all bricks. As long as the locks are held,
+/// each name stands so.
 #[derive(Drop)]
 pub struct Held {
     pub scope: Scope,
@@ -460,11 +460,11 @@ impl Held {
     }
 }
 
-/// A section that is held stays so whatever others do. Each of its names stands as it was found, and
-/// did at the line of its last look, and its directory is one of the tree; the brick that holds it by
-/// the layout that was read holds it; and a brick has a linkto there exactly where one was seen, if the
-/// name is no directory. Of the root all bricks showed their copies, so the whole layout was read.
-/// These are laws for callers, and do nothing.
+/// A section that is held stays so whatever others do. Each of its names stands as it was found,
+/// and did at the line of its last look, and its directory is one of the tree; the brick that holds
+/// it by the layout that was read holds it; and a brick has a linkto there exactly where one was
+/// seen, if the name is no directory. Of the root all bricks showed their copies, so the whole
+/// layout was read. These are laws for callers, and do nothing.
 pub fn a_section_stays()
     ensures stays { (h : AHeld) (s t : Scene) → IsHeld h s → Rely s t → IsHeld h t }
     ensures found { (h : AHeld) (e : Entry) (s : Scene) → IsHeld h s → IsWanted h e

@@ -304,8 +304,8 @@ impl Scope {
     }
 }
 
-/// A section of one name locks its directory, and then the name, and looks at the name: this is a law
-/// for callers, and does nothing.
+/// A section of one name locks its directory, and then the name, and looks at the name: this is a
+/// law for callers, and does nothing.
 pub fn one_name_has_two_locks()
     ensures { (bricks : ℕ) (g : AGfid) (mode : AMode) (n : List ℕ) (w : Scoped)
         → IsScope bricks (record { dirs = (g, mode) ∷ []; names = (g, n) ∷ [] }) w

@@ -1,5 +1,5 @@
-//! A create that is driven by hand, over two bricks: no brick has the name, and the second has a linkto
-//! of it; or no brick has a range of the directory, which is healed first.
+//! A create that is driven by hand, over two bricks: no brick has the name, and the second has a
+//! linkto of it; or no brick has a range of the directory, which is healed first.
 
 use dht_brick::replies::{Given, Look, Reply};
 use dht_brick::requests::{NameRequest, Request};

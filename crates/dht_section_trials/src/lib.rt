@@ -1,5 +1,5 @@
-//! What no contract says of the section, of a create and of an unlink: that their requests come in the
-//! order that is wanted, driven by hand.
+//! What no contract says of the section, of a create and of an unlink: that their requests come in
+//! the order that is wanted, driven by hand.
 #![tactic(auto)]
 
 #[cfg(test)]

@@ -1,4 +1,5 @@
-//! An unlink that is driven by hand, over two bricks: the name is a file's on the first, and its last.
+//! An unlink that is driven by hand, over two bricks: the name is a file's on the first, and its
+//! last.
 
 use dht_brick::replies::{Given, Look, Reply, Why};
 use dht_brick::requests::{FileRequest, NameRequest, Request};

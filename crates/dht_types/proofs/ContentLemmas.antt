@@ -10,7 +10,8 @@ no_zeros : (xs : List ℕ) (k : ℕ) → k ≤ length xs → replicate {A = ℕ}
 no_zeros xs k long = let none : k - length xs ≡ 0 = omega arith in ap (λ n. replicate {A = ℕ} n 0) none
 
 -- a prefix of bytes that were grown to a length above it
-prefix_grown : (xs : List ℕ) (k m : ℕ) → k ≤ m → take k (xs ++ replicate (m - length xs) 0) ≡ cut_to xs k
+prefix_grown :
+    (xs : List ℕ) (k m : ℕ) → k ≤ m → take k (xs ++ replicate (m - length xs) 0) ≡ cut_to xs k
 prefix_grown xs k m below = ⊎_elim
     (λ short. let past : length xs + (k - length xs) ≡ k = omega arith in
     let fits : k - length xs ≤ m - length xs = omega arith in
@@ -34,7 +35,9 @@ back xs k = ⊎_elim
     (cases_lt (length xs) k)
 
 -- to grow the bytes and then to write over them is to write
-pub written_over : (old piece : List ℕ) (start : ℕ) → let grown = old ++ replicate (start + length piece - length old) 0 in
+pub written_over :
+    (old piece : List ℕ) (start : ℕ)
+    → let grown = old ++ replicate (start + length piece - length old) 0 in
     take start grown ++ piece ++ drop (start + length piece) grown ≡ written old start piece
 written_over old piece start =
     let below : start ≤ start + length piece = omega arith in
@@ -42,7 +45,9 @@ written_over old piece start =
     ∙ ap (λ ys. cut_to old start ++ piece ++ ys) (back old (start + length piece))
 
 -- all of a list that is written back
-pub written_back : (size : ℕ) (bytes items : List ℕ) → length bytes ≡ size → length items ≡ size → take size (bytes ++ drop (length bytes) items) ≡ bytes
+pub written_back :
+    (size : ℕ) (bytes items : List ℕ) → length bytes ≡ size → length items ≡ size
+    → take size (bytes ++ drop (length bytes) items) ≡ bytes
 written_back size bytes items e f =
     let short : length items ≤ length bytes = omega arith in
     let whole : length bytes ≤ size = omega arith in

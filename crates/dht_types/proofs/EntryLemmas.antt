@@ -10,7 +10,8 @@ use Rattle.std.proofs.lemmas.Slice.Eq.{bytes_eq-Decides}
 use Rattle.dht_types.specs.declared.names.EntryKey.{EntryKey}
 use Rattle.dht_types.specs.Entry.{entry_cmp}
 
-both_equal : (first rest : Ordering) → ordering_then first rest ≡ Equal → (first ≡ Equal) × (rest ≡ Equal)
+both_equal :
+    (first rest : Ordering) → ordering_then first rest ≡ Equal → (first ≡ Equal) × (rest ≡ Equal)
 both_equal Less rest tied = cc
 both_equal Equal rest tied = (refl, tied)
 both_equal Greater rest tied = cc

@@ -51,7 +51,10 @@ power_positive : (k : ℕ) → 0 < 256 ^ k
 power_positive zero = omega arith
 power_positive (suc k) = omega (arith, pow-suc 256 k, power_positive k)
 
-read_back : (k n : ℕ) → sum_through (λ i. byte_worth (k - i) (slice_index (bytes_high_first (suc k) n) i)) k ≡ n % 256 ^ suc k
+read_back :
+    (k n : ℕ)
+    → sum_through (λ i. byte_worth (k - i) (slice_index (bytes_high_first (suc k) n) i)) k
+    ≡ n % 256 ^ suc k
 read_back zero n = refl
 read_back (suc k) n =
     let bytes = bytes_high_first (suc k) n in

@@ -7,15 +7,20 @@ use Rattle.dht_types.specs.declared.calls.TreeStep.{TreeStep}
 use Rattle.dht_types.specs.declared.lines.Line.{Line}
 use Rattle.dht_types.specs.declared.lines.Line.TheVariants.{Volume, Remounted, Called, Stepped, Waited, Tree as Changed, Answered, WentDown, CameUp, Died, Refused}
 
-pub lines_more : (s : History) (xs : List Line) (x : Line) → with_lines s (xs ++ x ∷ []) ≡ with_line (with_lines s xs) x
+pub lines_more :
+    (s : History) (xs : List Line) (x : Line)
+    → with_lines s (xs ++ x ∷ []) ≡ with_line (with_lines s xs) x
 lines_more s [] x = refl
 lines_more s (y ∷ ys) x = lines_more (with_line s y) ys x
 
-pub lines_append : (s : History) (xs ys : List Line) → with_lines s (xs ++ ys) ≡ with_lines (with_lines s xs) ys
+pub lines_append :
+    (s : History) (xs ys : List Line) → with_lines s (xs ++ ys) ≡ with_lines (with_lines s xs) ys
 lines_append s [] ys = refl
 lines_append s (x ∷ xs) ys = lines_append (with_line s x) xs ys
 
-pub legal_append : (s : History) (xs ys : List Line) → LegalFrom s xs → LegalFrom (with_lines s xs) ys → LegalFrom s (xs ++ ys)
+pub legal_append :
+    (s : History) (xs ys : List Line) → LegalFrom s xs → LegalFrom (with_lines s xs) ys
+    → LegalFrom s (xs ++ ys)
 legal_append s [] ys l k = k
 legal_append s (x ∷ xs) ys l k = (l.0, legal_append (with_line s x) xs ys l.1 k)
 
@@ -27,10 +32,12 @@ pub size_of : (xs : List Line) → (history_of xs).size ≡ length xs
 size_of xs = omega (arith, size_from start xs)
 
 -- what was told of earlier points stays told
-pub past_with_line : (s : History) (x : Line) (j : ℕ) → j ≤ s.size → (with_line s x).past j ≡ s.past j
+pub past_with_line :
+    (s : History) (x : Line) (j : ℕ) → j ≤ s.size → (with_line s x).past j ≡ s.past j
 past_with_line s x j h = put_other nat_eq exact_nat s.past (s.size + 1) (tells s x).tree j (λ e. omega arith)
 
-pub point_with_line : (s : History) (x : Line) → (with_line s x).past (with_line s x).size ≡ (with_line s x).tree
+pub point_with_line :
+    (s : History) (x : Line) → (with_line s x).past (with_line s x).size ≡ (with_line s x).tree
 point_with_line s x = put_same nat_eq exact_nat s.past (s.size + 1) (tells s x).tree
 
 step_run : (s : History) (step : TreeStep) (o a : Option Owed) → (with_step s step o a).run ≡ s.run

@@ -19,7 +19,9 @@ passes : (p : ℕ → Bool) (xs : List ℕ) (x : ℕ) → Contains xs x → p x 
 passes p xs x found pass = list_any_at p xs found.0 x found.1 (ap p found.2 ∙ pass)
 
 -- where the bytes have no forbidden byte
-none_forbidden : (bytes : List ℕ) → ¬ Contains bytes 47 → ¬ Contains bytes 0 → list_any is_forbidden bytes ≡ false
+none_forbidden :
+    (bytes : List ℕ) → ¬ Contains bytes 47 → ¬ Contains bytes 0
+    → list_any is_forbidden bytes ≡ false
 none_forbidden bytes no_slash no_zero =
     false_from_ne_true (list_any is_forbidden bytes) (λ some.
     let (k, byte, within, at, forbidden) = Any-from_list_any is_forbidden bytes some in
@@ -57,7 +59,9 @@ refusal_of-IsName bytes name =
     let size : nat_lt 255 (length bytes) ≡ false = grind (arith, nat_tests) in
     rw (valid bytes name, size) refl
 
-not_refused : (bytes : List ℕ) (invalid long : Bool) → is_invalid bytes ≡ invalid → nat_lt 255 (length bytes) ≡ long
+not_refused :
+    (bytes : List ℕ) (invalid long : Bool) → is_invalid bytes ≡ invalid
+    → nat_lt 255 (length bytes) ≡ long
     → None ≡ (if invalid then Some Einval else if long then Some Enametoolong else None) → IsName bytes
 not_refused bytes true long is_it size same = absurd (none_is_not Einval same)
 not_refused bytes false true is_it size same = absurd (none_is_not Enametoolong same)
@@ -67,7 +71,9 @@ not_refused bytes false false is_it size same = named bytes is_it (grind (arith,
 pub IsName-not_refused : (bytes : List ℕ) → None ≡ refusal_of bytes → IsName bytes
 IsName-not_refused bytes same = not_refused bytes (is_invalid bytes) (nat_lt 255 (length bytes)) refl refl same
 
-pub IsOk-check : {T : Type 0} (r : Result T Errno) (bytes : List ℕ) → result_err r ≡ refusal_of bytes → IsOk r ↔ IsName bytes
+pub IsOk-check :
+    {T : Type 0} (r : Result T Errno) (bytes : List ℕ) → result_err r ≡ refusal_of bytes
+    → IsOk r ↔ IsName bytes
 IsOk-check (Ok x) bytes same = (λ _. IsName-not_refused bytes same, λ _. refl)
 IsOk-check (Err e) bytes same = (λ ok. absurd (true≢false (sym ok)), λ name. absurd (none_is_not e (sym (same ∙ refusal_of-IsName bytes name))))
 

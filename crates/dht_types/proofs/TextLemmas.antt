@@ -24,7 +24,9 @@ nibble_above x xs k =
     rw (half, odd) refl
 
 -- the digits of bytes are those of their halves
-digit_at : (xs : List ℕ) (k d : ℕ) → All (λ b. b < 256) xs → k < length xs + length xs → get_or (hex_bytes xs) k d ≡ uuid.hex_digit lower (nibble xs k)
+digit_at :
+    (xs : List ℕ) (k d : ℕ) → All (λ b. b < 256) xs → k < length xs + length xs
+    → get_or (hex_bytes xs) k d ≡ uuid.hex_digit lower (nibble xs k)
 digit_at [] k d small within = absurd (omega arith)
 digit_at (x ∷ xs) zero d small within =
     let fits : x < 256 = All-head (λ b. b < 256) x xs small in
@@ -38,12 +40,15 @@ length-hex_bytes : (xs : List ℕ) → length (hex_bytes xs) ≡ length xs + len
 length-hex_bytes [] = refl
 length-hex_bytes (x ∷ xs) = omega (arith, length-hex_bytes xs)
 
-hex_bytes_lem : (xs : List ℕ) → length xs ≡ 16 → All (λ b. b < 256) xs → hex_bytes xs ≡ simple_text lower xs
+hex_bytes_lem :
+    (xs : List ℕ) → length xs ≡ 16 → All (λ b. b < 256) xs → hex_bytes xs ≡ simple_text lower xs
 hex_bytes_lem xs len small =
     by_index_same (hex_bytes xs) 32 (λ k. uuid.hex_digit lower (nibble xs k)) (omega (arith, length-hex_bytes xs)) (λ k d h. digit_at xs k d small (omega arith))
 
 -- the text of 16 bytes as a UUID has it
-pub hyphenated-hex_bytes : (xs : List ℕ) → length xs ≡ 16 → All (λ b. b < 256) xs → hyphenated (hex_bytes xs) ≡ hyphenated_text lower xs
+pub hyphenated-hex_bytes :
+    (xs : List ℕ) → length xs ≡ 16 → All (λ b. b < 256) xs
+    → hyphenated (hex_bytes xs) ≡ hyphenated_text lower xs
 unfolding by_index
 hyphenated-hex_bytes xs len small = ap hyphenated (hex_bytes_lem xs len small) ∙ refl
 
@@ -65,7 +70,8 @@ bytes_tell : (m n : ℕ) → m < 2 ^ 128 → n < 2 ^ 128 → to_be_bytes w128 m 
 bytes_tell m n m_fits n_fits same =
     sym (from_be_bytes-to_be_bytes m m_fits) ∙ ap (from_be_bytes w128) same ∙ from_be_bytes-to_be_bytes n n_fits
 
-pub gfid_text_tells : (a b : Gfid) → a.0 < 2 ^ 128 → b.0 < 2 ^ 128 → gfid_text a ≡ gfid_text b → a ≡ b
+pub gfid_text_tells :
+    (a b : Gfid) → a.0 < 2 ^ 128 → b.0 < 2 ^ 128 → gfid_text a ≡ gfid_text b → a ≡ b
 gfid_text_tells a b a_fits b_fits same =
     let bytes : Some (to_be_bytes w128 a.0) ≡ Some (to_be_bytes w128 b.0) = sym (parsed-gfid_text a) ∙ ap parsed same ∙ parsed-gfid_text b in
     let number : a.0 ≡ b.0 = bytes_tell a.0 b.0 a_fits b_fits (cc) in
@@ -76,19 +82,25 @@ pub length-gfid_text : (g : Gfid) → length (gfid_text g) ≡ 36
 length-gfid_text g = rw (gfid_text_lem g) (by_index_length 36 _)
 
 -- a text that was written as a UUID's
-pub text_written : (g : Gfid) (uuid shown text : List ℕ) → uuid ≡ to_be_bytes w128 g.0 → shown ≡ uuid → text ≡ hyphenated_text lower shown → text ≡ gfid_text g
+pub text_written :
+    (g : Gfid) (uuid shown text : List ℕ) → uuid ≡ to_be_bytes w128 g.0 → shown ≡ uuid
+    → text ≡ hyphenated_text lower shown → text ≡ gfid_text g
 text_written g uuid shown text of_number is_it written =
     written ∙ ap (hyphenated_text lower) (is_it ∙ of_number) ∙ sym (gfid_text_lem g)
 
 -- a text that is no UUID's is no gfid's
-pub refused-is_none : {E : Type 0} (r : Result (List ℕ) E) (text : List ℕ) → (IsOk r ↔ ((u : List ℕ) × (parsed text ≡ Some u))) → is_ok r ≡ false
+pub refused-is_none :
+    {E : Type 0} (r : Result (List ℕ) E) (text : List ℕ)
+    → (IsOk r ↔ ((u : List ℕ) × (parsed text ≡ Some u))) → is_ok r ≡ false
     → (g : Gfid) → text ≡ gfid_text g → ⊥
 refused-is_none r text ok refused g same =
     let passes : is_ok r ≡ true = ok.1 (to_be_bytes w128 g.0, ap parsed same ∙ parsed-gfid_text g) in
     cc
 
 -- the number of the UUID of a gfid's text is the gfid's
-pub number_of_text : (g : Gfid) (text uuid : List ℕ) (n : ℕ) → g.0 < 2 ^ 128 → text ≡ gfid_text g → Some uuid ≡ parsed text → n ≡ from_be_bytes w128 uuid → n ≡ g.0
+pub number_of_text :
+    (g : Gfid) (text uuid : List ℕ) (n : ℕ) → g.0 < 2 ^ 128 → text ≡ gfid_text g
+    → Some uuid ≡ parsed text → n ≡ from_be_bytes w128 uuid → n ≡ g.0
 number_of_text g text uuid n fits same is_parsed is_number =
     let bytes : Some uuid ≡ Some (to_be_bytes w128 g.0) = is_parsed ∙ ap parsed same ∙ parsed-gfid_text g in
     let is_bytes : uuid ≡ to_be_bytes w128 g.0 = cc in

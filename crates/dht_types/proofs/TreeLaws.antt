@@ -1,5 +1,5 @@
--- What holds of every tree: the first one is so, each step that fits keeps it, and so each tree of a
--- legal transcript is so.
+-- What holds of every tree: the first one is so, each step that
+-- fits keeps it, and so each tree of a legal transcript is so.
 use Rattle.std.proofs.Common.{◌≡◌, ◌≢◌, ℕ, ◌+◌, Bool, true, false, true≢false, ◌||◌, List, [], ◌∷◌, refl, sym, ap, ◌∙◌, subst, arith, if◌then◌else◌}
 use Rattle.std.specs.Prelude.{nat_eq, is_some, Option, Some, None}
 use Rattle.std.specs.Str.{bytes_eq}
@@ -27,7 +27,9 @@ lists_first n xs = ap (λ b. b || lists n xs) ((bytes_eq-Decides n n).1 refl)
 lists_more : (n x : List ℕ) (xs : List (List ℕ)) → x ≢ n → lists n (x ∷ xs) ≡ lists n xs
 lists_more n x xs ne = ap (λ b. b || lists n xs) (told_apart x n ne)
 
-gone_by : (n x : List ℕ) (rest : List (List ℕ)) (b : Bool) → bytes_eq x n ≡ b → lists n rest ≡ false → lists n (if b then rest else x ∷ rest) ≡ false
+gone_by :
+    (n x : List ℕ) (rest : List (List ℕ)) (b : Bool) → bytes_eq x n ≡ b → lists n rest ≡ false
+    → lists n (if b then rest else x ∷ rest) ≡ false
 gone_by n x rest true e h = h
 gone_by n x rest false e h = ap (λ c. c || lists n rest) e ∙ h
 
@@ -36,7 +38,9 @@ gone : (n : List ℕ) (xs : List (List ℕ)) → lists n (without_name n xs) ≡
 gone n [] = refl
 gone n (x ∷ xs) = gone_by n x (without_name n xs) (bytes_eq x n) refl (gone n xs)
 
-left_by : (m n x : List ℕ) (rest old : List (List ℕ)) (b : Bool) → m ≢ n → bytes_eq x n ≡ b → lists m rest ≡ lists m old → lists m (if b then rest else x ∷ rest) ≡ lists m (x ∷ old)
+left_by :
+    (m n x : List ℕ) (rest old : List (List ℕ)) (b : Bool) → m ≢ n → bytes_eq x n ≡ b
+    → lists m rest ≡ lists m old → lists m (if b then rest else x ∷ rest) ≡ lists m (x ∷ old)
 left_by m n x rest old true ne e h = h ∙ sym (lists_more m x old (λ q. ne (sym q ∙ (bytes_eq-Decides x n).0 e)))
 left_by m n x rest old false ne e h = ap (λ c. bytes_eq x m || c) h
 
@@ -49,7 +53,9 @@ entry_is : (e : Entry) (d : Gfid) (n : List ℕ) → e.0 ≡ d → e.1 ≡ n →
 entry_is e d n h q = λ i. (h i, q i)
 
 -- after a name was added
-listed_more : (t : Tree) (d : Gfid) (n : List ℕ) (node : Node) → IsTree t → (e : Entry) → lists e.1 ((with_name t d n node).listings e.0) ≡ is_some ((with_name t d n node).names e)
+listed_more :
+    (t : Tree) (d : Gfid) (n : List ℕ) (node : Node) → IsTree t → (e : Entry)
+    → lists e.1 ((with_name t d n node).listings e.0) ≡ is_some ((with_name t d n node).names e)
 listed_more t d n node is e =
     let old = t.listings d in
     put_elim (λ x. lists e.1 (put same_gfid t.listings d (n ∷ old) e.0) ≡ is_some x) same_entry exact_entry t.names (d, n) (Some node) e
@@ -61,7 +67,9 @@ listed_more t d n node is e =
     (λ off. is.listed e))
 
 -- after a name was taken away
-listed_less : (t : Tree) (d : Gfid) (n : List ℕ) → IsTree t → (e : Entry) → lists e.1 ((less_name t d n).listings e.0) ≡ is_some ((less_name t d n).names e)
+listed_less :
+    (t : Tree) (d : Gfid) (n : List ℕ) → IsTree t → (e : Entry)
+    → lists e.1 ((less_name t d n).listings e.0) ≡ is_some ((less_name t d n).names e)
 listed_less t d n is e =
     let rest = without_name n (t.listings d) in
     put_elim (λ x. lists e.1 (put same_gfid t.listings d rest e.0) ≡ is_some x) same_entry exact_entry t.names (d, n) None e
@@ -88,17 +96,24 @@ dirs_differ : (t : Tree) (g h : Gfid) → t.dirs g ≡ true → t.dirs h ≡ fal
 dirs_differ t g h on off e = true≢false (sym on ∙ ap t.dirs e ∙ off)
 
 -- what stood stands beside one more
-stands_more : (t : Tree) (d : Gfid) (n : List ℕ) (node : Node) (e : Entry) (h : Gfid) → t.names (d, n) ≡ None → t.names e ≡ Some (IsDir h) → (with_name t d n node).names e ≡ Some (IsDir h)
+stands_more :
+    (t : Tree) (d : Gfid) (n : List ℕ) (node : Node) (e : Entry) (h : Gfid) → t.names (d, n) ≡ None
+    → t.names e ≡ Some (IsDir h) → (with_name t d n node).names e ≡ Some (IsDir h)
 stands_more t d n node e h free at =
     put_other same_entry exact_entry t.names (d, n) (Some node) e (λ q. none_differs (IsDir h) (sym free ∙ ap t.names (sym q) ∙ at)) ∙ at
 
 -- and where another was taken away
-stands_less : (t : Tree) (d : Gfid) (n : List ℕ) (e : Entry) (h : Gfid) → t.names (d, n) ≢ Some (IsDir h) → t.names e ≡ Some (IsDir h) → (less_name t d n).names e ≡ Some (IsDir h)
+stands_less :
+    (t : Tree) (d : Gfid) (n : List ℕ) (e : Entry) (h : Gfid) → t.names (d, n) ≢ Some (IsDir h)
+    → t.names e ≡ Some (IsDir h) → (less_name t d n).names e ≡ Some (IsDir h)
 stands_less t d n e h other at =
     put_other same_entry exact_entry t.names (d, n) None e (λ q. other (ap t.names (sym q) ∙ at)) ∙ at
 
 -- a directory stands where it stood, if its name does
-placed_kept : (t u : Tree) (g : Gfid) → u.descents g ≡ t.descents g → ((e : Entry) → t.names e ≡ Some (IsDir g) → u.names e ≡ Some (IsDir g)) → IsPlaced t g → IsPlaced u g
+placed_kept :
+    (t u : Tree) (g : Gfid) → u.descents g ≡ t.descents g
+    → ((e : Entry) → t.names e ≡ Some (IsDir g) → u.names e ≡ Some (IsDir g)) → IsPlaced t g
+    → IsPlaced u g
 placed_kept t u g same kept p = record {
   descent = p.descent;
   is = same ∙ p.is;
@@ -108,7 +123,9 @@ placed_kept t u g same kept p = record {
 }
 
 -- a name's directory is as it was
-child_kept : (t u : Tree) (e : Entry) (g : Gfid) → u.dirs g ≡ true → u.descents g ≡ t.descents g → u.descents e.0 ≡ t.descents e.0 → IsChild t e g → IsChild u e g
+child_kept :
+    (t u : Tree) (e : Entry) (g : Gfid) → u.dirs g ≡ true → u.descents g ≡ t.descents g
+    → u.descents e.0 ≡ t.descents e.0 → IsChild t e g → IsChild u e g
 child_kept t u e g on same above c = record {
   dir = on;
   descent = same ∙ c.descent ∙ ap (λ (x : Option Descent). let y : Descent = record { depth = depth_in x + 1; place = Some e } in Some y) (sym above);
@@ -116,7 +133,9 @@ child_kept t u e g on same above c = record {
 
 -- ---- a file is added
 
-file_added : (t : Tree) (d : Gfid) (n : List ℕ) (f : Gfid) → IsTree t → Fits (AddFile d n f) t → IsTree (applied (AddFile d n f) t)
+file_added :
+    (t : Tree) (d : Gfid) (n : List ℕ) (f : Gfid) → IsTree t → Fits (AddFile d n f) t
+    → IsTree (applied (AddFile d n f) t)
 file_added t d n f is fits =
     let u = applied (AddFile d n f) t in
     record {
@@ -138,11 +157,15 @@ still_dir : (t : Tree) (g h : Gfid) → t.dirs h ≡ true → put same_gfid t.di
 still_dir t g h on = put_elim (λ x. x ≡ true) same_gfid exact_gfid t.dirs g true h (λ e. refl) (λ ne. on)
 
 -- and has the descent that it had
-still_made : (t : Tree) (d : Gfid) (n : List ℕ) (g h : Gfid) → t.dirs g ≡ false → t.dirs h ≡ true → (applied (AddDir d n g) t).descents h ≡ t.descents h
+still_made :
+    (t : Tree) (d : Gfid) (n : List ℕ) (g h : Gfid) → t.dirs g ≡ false → t.dirs h ≡ true
+    → (applied (AddDir d n g) t).descents h ≡ t.descents h
 still_made t d n g h off on = put_other same_gfid exact_gfid t.descents g (Some (descent_at t d n)) h (dirs_differ t h g on off)
 
 -- the new one stands where it is made
-new_placed : (t : Tree) (d : Gfid) (n : List ℕ) (g : Gfid) → Fits (AddDir d n g) t → IsPlaced (applied (AddDir d n g) t) g
+new_placed :
+    (t : Tree) (d : Gfid) (n : List ℕ) (g : Gfid) → Fits (AddDir d n g) t
+    → IsPlaced (applied (AddDir d n g) t) g
 new_placed t d n g fits =
     let above = fits.1 in
     record {
@@ -154,14 +177,18 @@ new_placed t d n g fits =
       rooted = λ at. let h : ◌≡◌ {A = Option Entry} (Some (d, n)) None = at in cc;
     }
 
-new_child : (t : Tree) (d : Gfid) (n : List ℕ) (g : Gfid) → Fits (AddDir d n g) t → IsChild (applied (AddDir d n g) t) (d, n) g
+new_child :
+    (t : Tree) (d : Gfid) (n : List ℕ) (g : Gfid) → Fits (AddDir d n g) t
+    → IsChild (applied (AddDir d n g) t) (d, n) g
 new_child t d n g fits = record {
   dir = put_same same_gfid exact_gfid t.dirs g true;
   descent = put_same same_gfid exact_gfid t.descents g (Some (descent_at t d n))
       ∙ ap (λ (x : Option Descent). let y : Descent = record { depth = depth_in x + 1; place = Some (d, n) } in Some y) (sym (still_made t d n g d fits.3 fits.0));
 }
 
-dir_added : (t : Tree) (d : Gfid) (n : List ℕ) (g : Gfid) → IsTree t → Fits (AddDir d n g) t → IsTree (applied (AddDir d n g) t)
+dir_added :
+    (t : Tree) (d : Gfid) (n : List ℕ) (g : Gfid) → IsTree t → Fits (AddDir d n g) t
+    → IsTree (applied (AddDir d n g) t)
 dir_added t d n g is fits =
     let u = applied (AddDir d n g) t in
     record {
@@ -181,7 +208,9 @@ dir_added t d n g is fits =
 
 -- ---- a file's name is taken away
 
-file_removed : (t : Tree) (d : Gfid) (n : List ℕ) → IsTree t → Fits (RemoveFile d n) t → IsTree (applied (RemoveFile d n) t)
+file_removed :
+    (t : Tree) (d : Gfid) (n : List ℕ) → IsTree t → Fits (RemoveFile d n) t
+    → IsTree (applied (RemoveFile d n) t)
 file_removed t d n is fits =
     let u = applied (RemoveFile d n) t in
     record {
@@ -204,7 +233,9 @@ place_in None = None
 place_in (Some x) = x.place
 
 -- a directory has one name
-one_name : (t : Tree) (a b : Entry) (g : Gfid) → IsTree t → t.names a ≡ Some (IsDir g) → t.names b ≡ Some (IsDir g) → a ≡ b
+one_name :
+    (t : Tree) (a b : Entry) (g : Gfid) → IsTree t → t.names a ≡ Some (IsDir g)
+    → t.names b ≡ Some (IsDir g) → a ≡ b
 unfolding place_in
 one_name t a b g is at_a at_b =
     let same : Some a ≡ Some b = ap place_in (sym (is.child a g at_a).descent ∙ (is.child b g at_b).descent) in
@@ -223,14 +254,17 @@ not_within t g e empty some at =
     let none : t.names e ≡ None = subst (λ (x : Gfid). t.names (x, e.1) ≡ None) (sym at) (empty e.1) in
     true≢false (sym some ∙ ap is_some none)
 
-other_dir : (t : Tree) (g h : Gfid) → h ≢ g → t.dirs h ≡ true → put same_gfid t.dirs g false h ≡ true
+other_dir :
+    (t : Tree) (g h : Gfid) → h ≢ g → t.dirs h ≡ true → put same_gfid t.dirs g false h ≡ true
 other_dir t g h ne on = put_other same_gfid exact_gfid t.dirs g false h ne ∙ on
 
 -- the tree without a directory's name and the directory
 abbrev without_dir : Tree → Gfid → List ℕ → Gfid → Tree
 without_dir t d n g = record (less_name t d n) { dirs = put same_gfid t.dirs g false }
 
-dir_gone : (t : Tree) (d : Gfid) (n : List ℕ) (g : Gfid) → IsTree t → t.names (d, n) ≡ Some (IsDir g) → IsEmpty t g → IsTree (without_dir t d n g)
+dir_gone :
+    (t : Tree) (d : Gfid) (n : List ℕ) (g : Gfid) → IsTree t → t.names (d, n) ≡ Some (IsDir g)
+    → IsEmpty t g → IsTree (without_dir t d n g)
 dir_gone t d n g is stood empty =
     let u = without_dir t d n g in
     record {
@@ -248,13 +282,16 @@ dir_gone t d n g is stood empty =
       rooted = (other_dir t g root (λ q. unnamed_root t (d, n) g is stood (sym q)) is.rooted.0, is.rooted.1);
     }
 
-dir_removed : (t : Tree) (d : Gfid) (n : List ℕ) → IsTree t → Fits (RemoveDir d n) t → IsTree (applied (RemoveDir d n) t)
+dir_removed :
+    (t : Tree) (d : Gfid) (n : List ℕ) → IsTree t → Fits (RemoveDir d n) t
+    → IsTree (applied (RemoveDir d n) t)
 dir_removed t d n is fits =
     subst (λ (node : Option Node). IsTree (record (less_name t d n) { dirs = less_dir t.dirs node })) (sym fits.1) (dir_gone t d n fits.0 is fits.1 fits.2)
 
 -- ---- every step
 
-pub fits_keeps_tree : (t : Tree) (step : TreeStep) → IsTree t → Fits step t → IsTree (applied step t)
+pub fits_keeps_tree :
+    (t : Tree) (step : TreeStep) → IsTree t → Fits step t → IsTree (applied step t)
 fits_keeps_tree t (AddFile d n f) is fits = file_added t d n f is fits
 fits_keeps_tree t (AddDir d n g) is fits = dir_added t d n g is fits
 fits_keeps_tree t (RemoveFile d n) is fits = file_removed t d n is fits
@@ -298,23 +335,30 @@ pub unlisted_empty : (t : Tree) (d : Gfid) → IsTree t → t.listings d ≡ [] 
 unlisted_empty t d is none n =
     none_there (t.names (d, n)) (sym (is.listed (d, n)) ∙ ap (lists n) none)
 
-one_listed : (n : List ℕ) (xs : List (List ℕ)) → lists n xs ≡ true → (x : List ℕ) × (rest : List (List ℕ)) × (xs ≡ x ∷ rest)
+one_listed :
+    (n : List ℕ) (xs : List (List ℕ)) → lists n xs ≡ true
+    → (x : List ℕ) × (rest : List (List ℕ)) × (xs ≡ x ∷ rest)
 one_listed n [] listed = absurd (true≢false (sym listed))
 one_listed n (x ∷ xs) listed = (x, xs, refl)
 
 -- where a name stands, there is one
-pub full_listing : (t : Tree) (d : Gfid) (n : List ℕ) (node : Node) → IsTree t → t.names (d, n) ≡ Some node → (x : List ℕ) × (rest : List (List ℕ)) × (t.listings d ≡ x ∷ rest)
+pub full_listing :
+    (t : Tree) (d : Gfid) (n : List ℕ) (node : Node) → IsTree t → t.names (d, n) ≡ Some node
+    → (x : List ℕ) × (rest : List (List ℕ)) × (t.listings d ≡ x ∷ rest)
 full_listing t d n node is at = one_listed n (t.listings d) (is.listed (d, n) ∙ ap is_some at)
 
 -- ---- transcripts
 
-step_tree : (s : History) (step : TreeStep) (o a : Option Owed) → (with_step s step o a).tree ≡ applied step s.tree
+step_tree :
+    (s : History) (step : TreeStep) (o a : Option Owed)
+    → (with_step s step o a).tree ≡ applied step s.tree
 step_tree s step None None = refl
 step_tree s step None (Some a) = refl
 step_tree s step (Some o) a = refl
 
 -- a line that may come next leaves a tree
-pub line_keeps_tree : (s : History) (line : Line) → IsTree s.tree → Follows s line → IsTree (with_line s line).tree
+pub line_keeps_tree :
+    (s : History) (line : Line) → IsTree s.tree → Follows s line → IsTree (with_line s line).tree
 line_keeps_tree s (Volume w) is f = is
 line_keeps_tree s (Remounted w) is f = is
 line_keeps_tree s (Called k c call) is f = is
@@ -328,11 +372,15 @@ line_keeps_tree s (CameUp b) is f = is
 line_keeps_tree s (Died c) is f = is
 line_keeps_tree s (Refused n cause) is f = is
 
-past_kept : (s : History) (line : Line) → IsTree (with_line s line).tree → ((j : ℕ) → IsTree (s.past j)) → (j : ℕ) → IsTree ((with_line s line).past j)
+past_kept :
+    (s : History) (line : Line) → IsTree (with_line s line).tree → ((j : ℕ) → IsTree (s.past j))
+    → (j : ℕ) → IsTree ((with_line s line).past j)
 past_kept s line is past j =
     put_elim IsTree nat_eq exact_nat s.past (s.size + 1) (with_line s line).tree j (λ e. is) (λ ne. past j)
 
-trees_from : (s : History) (lines : List Line) → AreTrees s → LegalFrom s lines → AreTrees (with_lines s lines)
+trees_from :
+    (s : History) (lines : List Line) → AreTrees s → LegalFrom s lines
+    → AreTrees (with_lines s lines)
 trees_from s [] are legal = are
 trees_from s (line ∷ lines) are legal =
     let now = line_keeps_tree s line are.now legal.0 in

@@ -22,7 +22,9 @@ some_is_not : (fault : VolumeFault) → ◌≡◌ {A = Option VolumeFault} (Some
 some_is_not fault same = cc
 
 -- no test but the last failed
-passed : (test : Bool) (fault : VolumeFault) (rest : Option VolumeFault) → (if not test then Some fault else rest) ≡ None → (test ≡ true) × (rest ≡ None)
+passed :
+    (test : Bool) (fault : VolumeFault) (rest : Option VolumeFault)
+    → (if not test then Some fault else rest) ≡ None → (test ≡ true) × (rest ≡ None)
 passed true fault rest same = (refl, same)
 passed false fault rest same = absurd (some_is_not fault same)
 
@@ -52,7 +54,9 @@ heavy weights good =
     (k, w, within, at, grind (arith, nat_tests, positive))
 
 -- a volume by its parts
-volume : (v : VolumeInfo) → is_count (length v.names) ≡ true → length v.weights ≡ length v.names → All (λ name. is_brick_name name ≡ true) v.names
+volume :
+    (v : VolumeInfo) → is_count (length v.names) ≡ true → length v.weights ≡ length v.names
+    → All (λ name. is_brick_name name ≡ true) v.names
     → AllPairs (λ a b. a ≢ b) v.names → late_fault_of v.weights v.run ≡ None → IsVolume v
 volume v count weighed named differ late =
     let size = and_parts (nat_lt 0 (length v.names)) (nat_le (length v.names) 32) count in
@@ -93,7 +97,9 @@ told_distinct (name ∷ names) differ =
     and_from (not (list_any (bytes_eq name) names)) (are_distinct names) (not_from_false (list_any (bytes_eq name) names) none)
     (told_distinct names (λ i j d before within. differ (suc i) (suc j) d (omega arith) (omega arith)))
 
-told_weights : (weights : List ℕ) → All (λ w. w ≤ 1000) weights → Any (λ w. 0 < w) weights → are_weights weights ≡ true
+told_weights :
+    (weights : List ℕ) → All (λ w. w ≤ 1000) weights → Any (λ w. 0 < w) weights
+    → are_weights weights ≡ true
 told_weights weights light heavy =
     let (k, w, within, at, positive) = heavy in
     and_from (list_all is_light weights) (list_any is_positive weights)
@@ -155,7 +161,8 @@ name_fits brick small =
     (and_from (nat_lt 0 (length (replay_name brick))) (nat_le (length (replay_name brick)) 64) positive long)
     (list_all-append is_brick_byte (codes "brick-") (decimal brick) ∙ decimal_fits brick (omega arith))
 
-replay_names_fit : (count : ℕ) → count ≤ 32 → All (λ name. is_brick_name name ≡ true) (replay_names count)
+replay_names_fit :
+    (count : ℕ) → count ≤ 32 → All (λ name. is_brick_name name ≡ true) (replay_names count)
 unfolding replay_names
 replay_names_fit zero few = All-nil (λ name. is_brick_name name ≡ true)
 replay_names_fit (suc count) few =
@@ -176,7 +183,9 @@ replay_names_differ (suc count) few =
     omega arith)
 
 -- a replay's volume with no fault is a volume
-pub IsVolume-replay_fault_of : (weights : List ℕ) (run : ℕ) → replay_fault_of weights run ≡ None → IsVolume (replay_info weights run)
+pub IsVolume-replay_fault_of :
+    (weights : List ℕ) (run : ℕ) → replay_fault_of weights run ≡ None
+    → IsVolume (replay_info weights run)
 IsVolume-replay_fault_of weights run none =
     let first = passed (is_count (length weights)) Bricks (late_fault_of weights run) none in
     let few : length weights ≤ 32 = grind (arith, nat_tests, (and_parts (nat_lt 0 (length weights)) (nat_le (length weights) 32) first.0).1) in
@@ -184,14 +193,20 @@ IsVolume-replay_fault_of weights run none =
     (replay_names_fit (length weights) few) (replay_names_differ (length weights) few) first.1
 
 -- the place of a name
-pub place_holds : (names : List (List ℕ)) (name : List ℕ) (k : ℕ) → position (λ other. bytes_eq other name) names ≡ Some k → slice_get names k ≡ Some name
+pub place_holds :
+    (names : List (List ℕ)) (name : List ℕ) (k : ℕ)
+    → position (λ other. bytes_eq other name) names ≡ Some k → slice_get names k ≡ Some name
 place_holds names name k found =
     let facts = position-Some (λ other. bytes_eq other name) names k name found in
     slice_get-get_or names k name facts.0 ∙ ap Some ((bytes_eq-Decides (get_or names k name) name).0 facts.1)
 
 -- what the checks before a volume is made say
-pub no_fault : {T : Type 0} (r : Result T VolumeFault) (x : T) (fault : Option VolumeFault) → result_err r ≡ fault → r ≡ Ok x → fault ≡ None
+pub no_fault :
+    {T : Type 0} (r : Result T VolumeFault) (x : T) (fault : Option VolumeFault)
+    → result_err r ≡ fault → r ≡ Ok x → fault ≡ None
 no_fault r x fault is_it fine = sym is_it ∙ ap result_err fine
 
-pub no_replay_fault : (weights : List ℕ) (run : ℕ) → is_count (length weights) ≡ true → late_fault_of weights run ≡ None → replay_fault_of weights run ≡ None
+pub no_replay_fault :
+    (weights : List ℕ) (run : ℕ) → is_count (length weights) ≡ true
+    → late_fault_of weights run ≡ None → replay_fault_of weights run ≡ None
 no_replay_fault weights run count late = rw count late

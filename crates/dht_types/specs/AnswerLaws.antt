@@ -11,7 +11,9 @@ use Rattle.dht_types.specs.declared.calls.Answer.TheVariants.{File, Dir, Made, D
 use Rattle.dht_types.specs.declared.errors.Errno.{Errno}
 use Rattle.dht_types.specs.declared.errors.Errno.TheVariants.{Enoent, Enomem, Eexist, Einval, Enametoolong, Enotdir, Eisdir, Enotempty, Estale, Enotconn, Eio}
 
-tells_at : (s t : History) (call : Call Gfid) (deeds : Option Deeds) (j : ℕ) (a : Answer) → t.past j ≡ s.past j → Tells s call deeds j a → Tells t call deeds j a
+tells_at :
+    (s t : History) (call : Call Gfid) (deeds : Option Deeds) (j : ℕ) (a : Answer)
+    → t.past j ≡ s.past j → Tells s call deeds j a → Tells t call deeds j a
 tells_at s t call None j a e h = λ g. ap (λ (p : Tree). answer_of (says p call g)) e ∙ h g
 tells_at s t call (Some d) j a e h = h
 
@@ -25,7 +27,9 @@ pub record Continues (s t : History) (x y : PendingCall) : Type 0 where
   pub later : s.size ≤ t.size
   pub past : (j : ℕ) → j ≤ s.size → t.past j ≡ s.past j
 
-point_kept : (s t : History) (x y : PendingCall) (at : Option ℕ) (a : Answer) → Continues s t x y → HasPoint s x at a → HasPoint t y at a
+point_kept :
+    (s t : History) (x y : PendingCall) (at : Option ℕ) (a : Answer) → Continues s t x y
+    → HasPoint s x at a → HasPoint t y at a
 point_kept s t x y at a g h =
     let later = g.later in
     let before = h.before in
@@ -39,13 +43,17 @@ point_kept s t x y at a g h =
       tells = subst (λ (c : Call Gfid). Tells t c y.deeds h.point a) (sym g.call) (subst (λ (d : Option Deeds). Tells t x.call d h.point a) (sym g.deeds) (tells_at s t x.call x.deeds h.point a (g.past h.point h.before) h.tells));
     }
 
-at_once_kept : (s t : History) (x y : PendingCall) (at : Option ℕ) (e : Errno) → Continues s t x y → IsAtOnce x at e → IsAtOnce y at e
+at_once_kept :
+    (s t : History) (x y : PendingCall) (at : Option ℕ) (e : Errno) → Continues s t x y
+    → IsAtOnce x at e → IsAtOnce y at e
 at_once_kept s t x y at e g h = record {
   refused = ap (λ (c : Call Gfid). refusal_at_once c) g.call ∙ h.refused;
   unprinted = h.unprinted;
 }
 
-fault_kept : (s t : History) (x y : PendingCall) (at : Option ℕ) (e : Errno) → Continues s t x y → FaultHolds s x at e → FaultHolds t y at e
+fault_kept :
+    (s t : History) (x y : PendingCall) (at : Option ℕ) (e : Errno) → Continues s t x y
+    → FaultHolds s x at e → FaultHolds t y at e
 fault_kept s t x y at Enoent g h = point_kept s t x y at _ g h
 fault_kept s t x y at Enomem g h = h
 fault_kept s t x y at Eexist g h = point_kept s t x y at _ g h
@@ -59,7 +67,9 @@ fault_kept s t x y at Eisdir g h = point_kept s t x y at _ g h
 fault_kept s t x y at Enotempty g h = point_kept s t x y at _ g h
 fault_kept s t x y at Estale g h = point_kept s t x y at _ g h
 
-pub answers_kept : (s t : History) (x y : PendingCall) (at : Option ℕ) (a : Answer) → Continues s t x y → Answers s x at a → Answers t y at a
+pub answers_kept :
+    (s t : History) (x y : PendingCall) (at : Option ℕ) (a : Answer) → Continues s t x y
+    → Answers s x at a → Answers t y at a
 answers_kept s t x y at (File f) g h = point_kept s t x y at _ g h
 answers_kept s t x y at (Dir k) g h = point_kept s t x y at _ g h
 answers_kept s t x y at (Made f) g h = point_kept s t x y at _ g h

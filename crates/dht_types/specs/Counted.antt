@@ -7,8 +7,8 @@ abbrev pub IsListed : ℕ → List ℕ → Type 0
 IsListed c [] = ⊥
 IsListed c (x ∷ xs) = (x ≡ c) ⊎ IsListed c xs
 
--- each pending call is listed, and who is listed has one; it has a number that was given; one that was
--- alone when it began, and after which none was accepted, is alone
+-- each pending call is listed, and who is listed has one; it has a number that was
+-- given; one that was alone when it began, and after which none was accepted, is alone
 pub record CallsCounted (s : History) : Type 0 where
   pub listed : (c : ℕ) (r : PendingCall) → s.pending c ≡ Some r → IsListed c s.callers
   pub calling : (c : ℕ) → IsListed c s.callers → is_some (s.pending c) ≡ true

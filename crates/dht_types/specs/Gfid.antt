@@ -10,7 +10,9 @@ root = record { 0 = 1 }
 
 -- from high to low: run (32 bits), client (16 bits), call (64 bits), home brick (16 bits)
 abbrev pub made : ℕ → ClientNo → CallNo → ℕ → Gfid
-made run client call home = record { 0 = (run * 65536 + client.0) * 1208925819614629174706176 + (call.0 * 65536 + home) }
+made run client call home = record {
+  0 = (run * 65536 + client.0) * 1208925819614629174706176 + (call.0 * 65536 + home);
+}
 
 -- the run in which it was made
 abbrev pub run_of : Gfid → ℕ

@@ -1,4 +1,5 @@
--- What the lines of a transcript tell, and when a transcript is legal. Nothing here speaks of bricks' contents or of programs.
+-- What the lines of a transcript tell, and when a transcript is
+-- legal. Nothing here speaks of bricks' contents or of programs.
 use Rattle.std.specs.Prelude.{ℕ, ◌+◌, ◌^◌, ◌<◌, ◌≤◌, ◌≡◌, ◌||◌, ◌&&◌, ◌⊎◌, if◌then◌else◌, nat_eq, Bool, true, false, not, Option, Some, None, MatchOption, List, [], ◌∷◌, ◌++◌, length}
 use Rattle.dht_types.specs.Put.{put}
 use Rattle.dht_types.specs.Calls.{refusal_at_once}
@@ -51,7 +52,8 @@ pub record Act : Type 0 where
   pub request : RequestKind
   pub reply : ReplyKind
 
--- the tree line that must come next, or may: that of this call, for a request of this kind that this brick carried out
+-- the tree line that must come next, or may: that of this
+-- call, for a request of this kind that this brick carried out
 pub record Owed : Type 0 where
   pub call : CallNo
   pub client : ClientNo
@@ -78,7 +80,8 @@ pub record History : Type 0 where
   pub changes : ℕ → List Entry  -- the slots of the tree lines under them that add or remove a file
   pub dir_changes : ℕ → List Entry  -- and of those that add or remove a directory
   pub owed : Option Owed  -- the tree line that must come next
-  pub allowed : Option Owed  -- the tree line that may come next: a copy of a directory is no step of the tree but at its home
+  -- the tree line that may come next: a copy of a directory is no step of the tree but at its home
+  pub allowed : Option Owed
 
 -- the gfid that a step makes; for one that makes none it is the root's, which no answer names
 abbrev pub made_in : TreeStep → Gfid
@@ -96,8 +99,16 @@ slot_of (RemoveDir d n) = (d, n)
 
 -- the tree lines with one more, on this tree and at this line
 abbrev pub deeds_after : Tree → ℕ → Call Gfid → Option Deeds → TreeStep → Deeds
-deeds_after t line call None step = record { said = says t call (made_in step); first = record { line = line; step = step }; more = [] }
-deeds_after t line call (Some d) step = record { said = d.said; first = d.first; more = d.more ++ record { line = line; step = step } ∷ [] }
+deeds_after t line call None step = record {
+  said = says t call (made_in step);
+  first = record { line = line; step = step };
+  more = [];
+}
+deeds_after t line call (Some d) step = record {
+  said = d.said;
+  first = d.first;
+  more = d.more ++ record { line = line; step = step } ∷ [];
+}
 
 -- a request was carried out
 abbrev pub is_carried : ReplyKind → Bool
@@ -110,7 +121,8 @@ is_change Create r = is_carried r
 is_change Unlink r = is_carried r
 is_change q r = false
 
--- the requests that change it where they are carried out by the home of the directory that they make or drop
+-- the requests that change it where they are carried out
+-- by the home of the directory that they make or drop
 abbrev pub is_dir_change : RequestKind → ReplyKind → Bool
 is_dir_change MakeDir r = is_carried r
 is_dir_change DropDir r = is_carried r
@@ -122,12 +134,14 @@ owed_if false o = None
 
 -- the tree line that is owed after a line
 abbrev pub owed_after : Line → Option Owed
-owed_after (Stepped k c b q r) = owed_if (is_change q r) (record { call = k; client = c; brick = b.0; request = q })
+owed_after (Stepped k c b q r) =
+    owed_if (is_change q r) (record { call = k; client = c; brick = b.0; request = q })
 owed_after line = None
 
 -- and the one that may come
 abbrev pub allowed_after : Line → Option Owed
-allowed_after (Stepped k c b q r) = owed_if (is_dir_change q r) (record { call = k; client = c; brick = b.0; request = q })
+allowed_after (Stepped k c b q r) =
+    owed_if (is_dir_change q r) (record { call = k; client = c; brick = b.0; request = q })
 allowed_after line = None
 
 -- the brick was down
@@ -157,21 +171,39 @@ abbrev pub is_empty : List ℕ → Bool
 is_empty [] = true
 is_empty (x ∷ xs) = false
 
--- a call that was accepted at this line, while these clients had one, and of a client that had called
--- since the volume was mounted, or had not
+-- a call that was accepted at this line, while these clients had one, and
+-- of a client that had called since the volume was mounted, or had not
 abbrev pub accepted : Bool → List ℕ → ℕ → CallNo → Call Gfid → PendingCall
-accepted called callers line k call = record { number = k; call = call; since = line; alone = is_empty callers; is_first = not called; steps = 0; was_down = false; has_failed = false; deeds = None }
+accepted called callers line k call = record {
+  number = k;
+  call = call;
+  since = line;
+  alone = is_empty callers;
+  is_first = not called;
+  steps = 0;
+  was_down = false;
+  has_failed = false;
+  deeds = None;
+}
 
--- a pending call with one more step line of this reply, or with the tree line of this step at this line
+-- a pending call with one more step line of this reply,
+-- or with the tree line of this step at this line
 abbrev pub stepped : ReplyKind → Option PendingCall → Option PendingCall
 stepped q None = None
-stepped q (Some r) = Some (record r { steps = r.steps + 1; was_down = r.was_down || is_down q; has_failed = r.has_failed || is_failed q })
+stepped q (Some r) =
+    Some
+    (record r {
+      steps = r.steps + 1;
+      was_down = r.was_down || is_down q;
+      has_failed = r.has_failed || is_failed q;
+    })
 
 abbrev pub did : Tree → ℕ → TreeStep → Option PendingCall → Option PendingCall
 did t line step None = None
 did t line step (Some r) = Some (record r { deeds = Some (deeds_after t line r.call r.deeds step) })
 
--- the history with a step of the tree, which is that of the request whose tree line was owed, or allowed
+-- the history with a step of the tree, which is that
+-- of the request whose tree line was owed, or allowed
 abbrev pub with_step : History → TreeStep → (owed allowed : Option Owed) → History
 with_step s step None None = record s { tree = applied step s.tree }
 with_step s step None (Some o) = record s {
@@ -206,7 +238,12 @@ gfid_in (Fault e) = None
 abbrev pub tells : History → Line → History
 tells s (Volume w) = record s { weights = w }
 -- the next run begins, in which every client is alive and has not called
-tells s (Remounted w) = record s { weights = w; run = s.run + 1; called = λ c. false; dead = λ c. false }
+tells s (Remounted w) = record s {
+  weights = w;
+  run = s.run + 1;
+  called = λ c. false;
+  dead = λ c. false;
+}
 tells s (Called k c call) = record s {
   calls = s.calls + 1;
   pending = put nat_eq s.pending c.0 (Some (accepted (s.called c.0) s.callers (s.size + 1) k call));
@@ -217,11 +254,15 @@ tells s (Stepped k c b q r) = record s {
   pending = put nat_eq s.pending c.0 (stepped r (s.pending c.0));
   clean = s.clean && is_sound r;
   requests = s.requests + 1;
-  acts = put nat_eq s.acts b.0 (acts_after (s.acts b.0) (record { client = c; call = k; request = q; reply = r }));
+  acts =
+      put nat_eq s.acts b.0
+      (acts_after (s.acts b.0) (record { client = c; call = k; request = q; reply = r }));
 }
 tells s (Waited k c b h) = record s {
   requests = s.requests + 1;
-  acts = put nat_eq s.acts b.0 (acts_after (s.acts b.0) (record { client = c; call = k; request = Lock; reply = Wait }));
+  acts =
+      put nat_eq s.acts b.0
+      (acts_after (s.acts b.0) (record { client = c; call = k; request = Lock; reply = Wait }));
 }
 tells s (Changed k step) = with_step s step s.owed s.allowed
 tells s (Answered k c j a) = record s {
@@ -240,7 +281,8 @@ tells s (Died c) = record s {
 }
 tells s (Refused n cause) = s
 
--- the history with one more line: what the line changes; and every line is counted, and leaves its tree behind
+-- the history with one more line: what the line changes;
+-- and every line is counted, and leaves its tree behind
 abbrev pub with_line : History → Line → History
 with_line s line = record (tells s line) {
   size = s.size + 1;
@@ -293,10 +335,13 @@ steps_of (d ∷ ds) = d.step ∷ steps_of ds
 abbrev pub all_steps : Deeds → List TreeStep
 all_steps d = d.first.step ∷ steps_of d.more
 
--- the step is the next that the call is to do: the first that the tree says now, or the one after those that it did
+-- the step is the next that the call is to do: the first
+-- that the tree says now, or the one after those that it did
 abbrev pub IsNext : Tree → Call Gfid → Option Deeds → TreeStep → Type 0
-IsNext t call None step = (rest : List TreeStep) × ((a : Answer) × (says t call (made_in step) ≡ Do (step ∷ rest) a))
-IsNext t call (Some d) step = (rest : List TreeStep) × ((a : Answer) × (d.said ≡ Do (all_steps d ++ step ∷ rest) a))
+IsNext t call None step =
+    (rest : List TreeStep) × ((a : Answer) × (says t call (made_in step) ≡ Do (step ∷ rest) a))
+IsNext t call (Some d) step =
+    (rest : List TreeStep) × ((a : Answer) × (d.said ≡ Do (all_steps d ++ step ∷ rest) a))
 
 -- the gfid that a step makes is of this run, client and call, with some home
 abbrev pub IsOwn : ℕ → ClientNo → CallNo → Gfid → Type 0
@@ -329,7 +374,8 @@ abbrev pub IsDue : (owed allowed : Option Owed) → Owed → Type 0
 IsDue (Some o) allowed w = o ≡ w
 IsDue None allowed w = allowed ≡ Some w
 
--- this is what the tree says to the call at point j, where it says to do nothing; or the answer to the very steps that the call did, the first of them at line j
+-- this is what the tree says to the call at point j, where it says to do nothing;
+-- or the answer to the very steps that the call did, the first of them at line j
 abbrev pub Tells : History → Call Gfid → Option Deeds → ℕ → Answer → Type 0
 Tells s call None j a = (g : Gfid) → answer_of (says (s.past j) call g) ≡ Some a
 Tells s call (Some d) j a = (d.first.line ≡ j) × (d.said ≡ Do (all_steps d) a)
@@ -358,7 +404,8 @@ pub record IsAtOnce (r : PendingCall) (at : Option ℕ) (e : Errno) : Type 0 whe
   pub refused : refusal_at_once r.call ≡ Some e
   pub unprinted : at ≡ None
 
--- memory that ran out is free and has no point; the call has then done the first of its steps, or some, or none. So has a call that ended because a brick was down, or failed
+-- memory that ran out is free and has no point; the call has then done the first of its
+-- steps, or some, or none. So has a call that ended because a brick was down, or failed
 abbrev pub FaultHolds : History → PendingCall → Option ℕ → Errno → Type 0
 FaultHolds s r at Enomem = at ≡ None
 FaultHolds s r at Enoent = HasPoint s r at (Fault Enoent)
@@ -389,16 +436,26 @@ abbrev pub Follows : History → Line → Type 0
 -- the volume line is the first
 Follows s (Volume w) = s.size ≡ 0
 -- a remount comes while no call is pending, and takes no brick away
-Follows s (Remounted w) = (s.owed ≡ None) × ((c : ℕ) → s.pending c ≡ None) × (length s.weights ≤ length w)
--- no line comes between a request and its tree line; calls are numbered, and a client that is busy calls nothing
+Follows s (Remounted w) =
+    (s.owed ≡ None) × ((c : ℕ) → s.pending c ≡ None) × (length s.weights ≤ length w)
+-- no line comes between a request and its tree line; calls
+-- are numbered, and a client that is busy calls nothing
 Follows s (Called k c call) = (s.owed ≡ None) × (k.0 ≡ s.calls + 1) × (s.pending c.0 ≡ None)
 -- a call that is to be refused at once takes no step
-Follows s (Stepped k c b q r) = (s.owed ≡ None) × ((o : PendingCall) × IsIn s c k o × (refusal_at_once o.call ≡ None))
-Follows s (Waited k c b h) = (s.owed ≡ None) × ((o : PendingCall) × IsIn s c k o × (refusal_at_once o.call ≡ None))
--- a tree line stands directly under the line of its request; its step is the next of the call's steps, can be done, and makes a gfid of this call
-Follows s (Changed k step) = (w : Owed) × IsDue s.owed s.allowed w × (w.call ≡ k) × IsOf w.request step × IsAtHome s.tree w.brick step × ((o : PendingCall) × IsIn s w.client k o × IsNext s.tree o.call o.deeds step × Fits step s.tree × MakesOwn s.run w.client k step)
+Follows s (Stepped k c b q r) =
+    (s.owed ≡ None) × ((o : PendingCall) × IsIn s c k o × (refusal_at_once o.call ≡ None))
+Follows s (Waited k c b h) =
+    (s.owed ≡ None) × ((o : PendingCall) × IsIn s c k o × (refusal_at_once o.call ≡ None))
+-- a tree line stands directly under the line of its request; its step is
+-- the next of the call's steps, can be done, and makes a gfid of this call
+Follows s (Changed k step) =
+    (w : Owed) × IsDue s.owed s.allowed w × (w.call ≡ k) × IsOf w.request step
+    × IsAtHome s.tree w.brick step
+    × ((o : PendingCall) × IsIn s w.client k o × IsNext s.tree o.call o.deeds step
+    × Fits step s.tree × MakesOwn s.run w.client k step)
 -- an answer is what the tree says, or the refusal at once
-Follows s (Answered k c at a) = (s.owed ≡ None) × ((o : PendingCall) × IsIn s c k o × Answers s o at a × HeedsRefusal o a)
+Follows s (Answered k c at a) =
+    (s.owed ≡ None) × ((o : PendingCall) × IsIn s c k o × Answers s o at a × HeedsRefusal o a)
 Follows s (WentDown b) = s.owed ≡ None
 Follows s (CameUp b) = s.owed ≡ None
 -- a client dies once

@@ -14,34 +14,48 @@ pub record IsPadded {A : Type 0} (size : ℕ) (filler : A) (n : ℕ) (places : L
 abbrev pub padded : {A : Type 0} → ℕ → A → List A → List A
 padded size filler xs = xs ++ replicate (size - length xs) filler
 
-pub length_back : {A : Type 0} (size : ℕ) (filler : A) (n : ℕ) (places : List A) → IsPadded size filler n places → length (take n places) ≡ n
+pub length_back :
+    {A : Type 0} (size : ℕ) (filler : A) (n : ℕ) (places : List A) → IsPadded size filler n places
+    → length (take n places) ≡ n
 length_back size filler n places h = let full = h.full in let short = h.short in length-take-le n places (omega arith)
 
-pub places_back : {A : Type 0} (size : ℕ) (filler : A) (n : ℕ) (places : List A) → IsPadded size filler n places → padded size filler (take n places) ≡ places
+pub places_back :
+    {A : Type 0} (size : ℕ) (filler : A) (n : ℕ) (places : List A) → IsPadded size filler n places
+    → padded size filler (take n places) ≡ places
 places_back size filler n places h =
     ap (λ m. take n places ++ replicate (size - m) filler) (length_back size filler n places h)
     ∙ (ap (λ rest. take n places ++ rest) (sym h.filled) ∙ take-append-drop n places)
 
 -- to pad is to pad
-pub padded_is : {A : Type 0} (size : ℕ) (filler : A) (xs : List A) → length xs ≤ size → IsPadded size filler (length xs) (padded size filler xs)
+pub padded_is :
+    {A : Type 0} (size : ℕ) (filler : A) (xs : List A) → length xs ≤ size
+    → IsPadded size filler (length xs) (padded size filler xs)
 padded_is {A} size filler xs h = record {
   full = omega (arith, length-append xs (replicate (size - length xs) filler), length-replicate {A = A} (size - length xs) filler);
   short = h;
   filled = drop-append_seam xs (replicate (size - length xs) filler);
 }
 
-pub padded_prefix : {A : Type 0} (size : ℕ) (filler : A) (xs : List A) → take (length xs) (padded size filler xs) ≡ xs
+pub padded_prefix :
+    {A : Type 0} (size : ℕ) (filler : A) (xs : List A)
+    → take (length xs) (padded size filler xs) ≡ xs
 padded_prefix size filler xs = take-append_seam xs (replicate (size - length xs) filler)
 
 -- a piece more
-behind : {A : Type 0} (size n : ℕ) (filler : A) (places piece : List A) → IsPadded size filler n places → length (take n places ++ piece) ≡ n + length piece
+behind :
+    {A : Type 0} (size n : ℕ) (filler : A) (places piece : List A) → IsPadded size filler n places
+    → length (take n places ++ piece) ≡ n + length piece
 behind size n filler places piece h =
     let full = h.full in
     let short = h.short in
     let first = length-take-le n places (omega arith) in
     omega (arith, length-append (take n places) piece)
 
-pub longer_padded : {A : Type 0} (size n : ℕ) (filler : A) (places piece joined : List A) → IsPadded size filler n places → n + length piece ≤ size → joined ≡ take n places ++ piece ++ drop (n + length piece) places → IsPadded size filler (n + length piece) joined
+pub longer_padded :
+    {A : Type 0} (size n : ℕ) (filler : A) (places piece joined : List A)
+    → IsPadded size filler n places → n + length piece ≤ size
+    → joined ≡ take n places ++ piece ++ drop (n + length piece) places
+    → IsPadded size filler (n + length piece) joined
 longer_padded size n filler places piece joined h fits e =
     let first = take n places ++ piece in
     let rest = drop (n + length piece) places in
@@ -62,7 +76,11 @@ longer_padded size n filler places piece joined h fits e =
           ∙ (drop-replicate (length piece) (size - n) filler ∙ ap (λ (i : ℕ). replicate i filler) same)))));
     }
 
-pub longer_is : {A : Type 0} (size n : ℕ) (filler : A) (places piece joined : List A) → IsPadded size filler n places → joined ≡ take n places ++ piece ++ drop (n + length piece) places → take (n + length piece) joined ≡ take n places ++ piece
+pub longer_is :
+    {A : Type 0} (size n : ℕ) (filler : A) (places piece joined : List A)
+    → IsPadded size filler n places
+    → joined ≡ take n places ++ piece ++ drop (n + length piece) places
+    → take (n + length piece) joined ≡ take n places ++ piece
 longer_is size n filler places piece joined h e =
     let first = take n places ++ piece in
     let rest = drop (n + length piece) places in

@@ -18,7 +18,9 @@ hex_number (suc k) n = hex_number k (n / 16) ++ hex_digit (n % 16) ∷ []
 
 -- 32 digits in groups of 8, 4, 4, 4 and 12, with a hyphen between two groups
 abbrev pub hyphenated : List ℕ → List ℕ
-hyphenated h = take 8 h ++ 45 ∷ take 4 (drop 8 h) ++ 45 ∷ take 4 (drop 12 h) ++ 45 ∷ take 4 (drop 16 h) ++ 45 ∷ drop 20 h
+hyphenated h =
+    take 8 h ++ 45 ∷ take 4 (drop 8 h) ++ 45 ∷ take 4 (drop 12 h) ++ 45 ∷ take 4 (drop 16 h) ++ 45
+    ∷ drop 20 h
 
 -- the text of a gfid
 unfoldable pub gfid_text : Gfid → List ℕ

@@ -24,9 +24,9 @@ pub record Descent : Type 0 where
   pub depth : ℕ
   pub place : Option Entry
 
--- a directory tree: what each name of a directory stands for, its directories, and the bytes of its
--- files. Beside these stands what follows of them: the names that each directory has, and the descent
--- of each directory that there ever was
+-- a directory tree: what each name of a directory stands for, its directories,
+-- and the bytes of its files. Beside these stands what follows of them: the names
+-- that each directory has, and the descent of each directory that there ever was
 pub record Tree : Type 0 where
   pub names : Entry → Option Node
   pub dirs : Gfid → Bool
@@ -112,7 +112,8 @@ applied (RemoveFile d n) t = less_name t d n
 applied (RemoveDir d n) t =
     record (less_name t d n) { dirs = less_dir t.dirs (t.names (d, n)) }
 
--- what a tree says to a call: that it is refused; to say this answer; or to do these steps, in order, and then say it
+-- what a tree says to a call: that it is refused; to say this
+-- answer; or to do these steps, in order, and then say it
 pub data Said : Type 0 where
   Refuse : Errno → Said
   Say : Answer → Said
@@ -187,8 +188,8 @@ pub record IsChild (t : Tree) (e : Entry) (g : Gfid) : Type 0 where
   pub dir : t.dirs g ≡ true
   pub descent : t.descents g ≡ Some (record { depth = depth_of t e.0 + 1; place = Some e })
 
--- a directory's listing has the names that stand in it; names stand in directories; and what is told
--- of the descents of directories is so
+-- a directory's listing has the names that stand in it; names stand in
+-- directories; and what is told of the descents of directories is so
 pub record IsTree (t : Tree) : Type 0 where
   pub listed : (e : Entry) → lists e.1 (t.listings e.0) ≡ is_some (t.names e)
   pub housed : (e : Entry) → is_some (t.names e) ≡ true → t.dirs e.0 ≡ true

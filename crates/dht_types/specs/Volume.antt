@@ -18,7 +18,8 @@ is_brick_byte byte = is_ascii_alphanumeric byte || (byte == 45) || (byte == 95) 
 
 -- a brick's name: 1 to 64 such bytes
 abbrev pub is_brick_name : List ℕ → Bool
-is_brick_name name = nat_lt 0 (length name) && nat_le (length name) 64 && list_all is_brick_byte name
+is_brick_name name =
+    nat_lt 0 (length name) && nat_le (length name) 64 && list_all is_brick_byte name
 
 -- no name comes twice
 abbrev pub are_distinct : List (List ℕ) → Bool
@@ -45,7 +46,8 @@ are_weights weights = list_all is_light weights && list_any is_positive weights
 
 -- the first that is wrong with the weights and the number of the run
 abbrev pub late_fault_of : List ℕ → ℕ → Option VolumeFault
-late_fault_of weights run = if not (are_weights weights) then Some Weight else if run == 0 then Some Run else None
+late_fault_of weights run =
+    if not (are_weights weights) then Some Weight else if run == 0 then Some Run else None
 
 -- the first that is wrong with a volume
 abbrev pub fault_of : List (List ℕ) → List ℕ → ℕ → Option VolumeFault
@@ -80,8 +82,14 @@ replay_names (suc count) = replay_names count ++ replay_name count ∷ []
 
 -- the volume of a replay
 abbrev pub replay_info : List ℕ → ℕ → VolumeInfo
-replay_info weights run = record { names = replay_names (length weights); weights = weights; run = run }
+replay_info weights run = record {
+  names = replay_names (length weights);
+  weights = weights;
+  run = run;
+}
 
--- the first that is wrong with it, where only the number of its bricks, its weights and its run can be
+-- the first that is wrong with it, where only the
+-- number of its bricks, its weights and its run can be
 abbrev pub replay_fault_of : List ℕ → ℕ → Option VolumeFault
-replay_fault_of weights run = if not (is_count (length weights)) then Some Bricks else late_fault_of weights run
+replay_fault_of weights run =
+    if not (is_count (length weights)) then Some Bricks else late_fault_of weights run

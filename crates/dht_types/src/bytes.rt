@@ -65,8 +65,8 @@ impl Bytes {
         })
     }
 
-    /// Writes a piece at an offset, with zeros between the old end and the offset. Where memory runs
-    /// out nothing is changed.
+    /// Writes a piece at an offset, with zeros between the old end and the offset. Where memory
+    /// runs out nothing is changed.
     pub fn write(&mut self, offset: u64, piece: &[u8]) -> Result<(), AllocError>
         ensures ok { OnOk result (self.new ≡ written self.old offset piece.now) }
         ensures err { OnErr result (self.new ≡ self.old) }
@@ -80,8 +80,8 @@ impl Bytes {
         Ok(())
     }
 
-    /// Keeps the first bytes up to a length, and puts zeros where there were none. Where memory runs
-    /// out nothing is changed.
+    /// Keeps the first bytes up to a length, and puts zeros where there were none. Where memory
+    /// runs out nothing is changed.
     pub fn cut(&mut self, length: u64) -> Result<(), AllocError>
         ensures ok { OnOk result (self.new ≡ cut_to self.old length) }
         ensures err { OnErr result (self.new ≡ self.old) }

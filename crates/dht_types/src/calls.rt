@@ -10,8 +10,8 @@ use super::identifiers::Gfid;
 use super::names::Name;
 use std::alloc::{AllocError, Global};
 
-/// A call of a client, which names its directories in this way: by their gfids, or as a schedule does.
-/// Its names are whatever bytes the caller gives.
+/// A call of a client, which names its directories in this way: by their gfids, or as a schedule
+/// does. Its names are whatever bytes the caller gives.
 #[derive(Drop)]
 pub enum Call<D> {
     /// What stands at this name of this directory.
@@ -58,8 +58,8 @@ impl<D: Copy> Call<D> {
         }
     }
 
-    /// Why the call is refused before its first request: its name is empty, `.` or `..`, or has a `/`
-    /// or a zero byte, or else more than 255 bytes.
+    /// Why the call is refused before its first request: its name is empty, `.` or `..`, or has a
+    /// `/` or a zero byte, or else more than 255 bytes.
     pub fn refusal_at_once(&self) -> Option<Errno>
         ensures { result ≡ refusal_at_once self.now }
     {
@@ -105,7 +105,7 @@ pub enum TreeStep {
     AddDir(Gfid, Name, Gfid),
     /// In this directory this name, which was a file's, stands for nothing now.
     RemoveFile(Gfid, Name),
-    /// In this directory this name, which was an empty directory's, stands for nothing now, and that
-    /// directory is none any more.
+    /// In this directory this name, which was an empty directory's, stands for nothing now, and
+    /// that directory is none any more.
     RemoveDir(Gfid, Name),
 }

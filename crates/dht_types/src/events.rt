@@ -15,14 +15,14 @@ pub enum Directory {
     Gfid(Gfid),
 }
 
-/// What a line of a schedule says. A number of a client or of a brick is what the line says, whether
-/// or not there is such a client or brick.
+/// What a line of a schedule says. A number of a client or of a brick is what the line says,
+/// whether or not there is such a client or brick.
 #[derive(Drop)]
 pub enum Event {
     /// The volume: its bricks' weights, in the bricks' order. It stands first and alone.
     Volume(Weights),
-    /// More bricks, or other weights of those that are there: the weights of all, in the bricks' order.
-    /// All clients begin anew.
+    /// More bricks, or other weights of those that are there: the weights of all, in the bricks'
+    /// order. All clients begin anew.
     Remount(Weights),
     /// This client calls.
     Call(u64, Call<Directory>),

@@ -4,9 +4,9 @@ ghost use Rattle.std.specs.Prelude.{◌≡◌, length};
 
 use std::marker::Model;
 
-/// The value of GlusterFS's attribute `trusted.glusterfs.dht` of a directory on one brick: 16 bytes,
-/// kept in place, so that a request that carries one takes no memory. Contracts see it as the list of
-/// its bytes.
+/// The value of GlusterFS's attribute `trusted.glusterfs.dht` of a directory on one brick: 16
+/// bytes, kept in place, so that a request that carries one takes no memory. Contracts see it as
+/// the list of its bytes.
 #[derive(Clone, Copy)]
 pub struct LayoutValue {
     bytes: [u8; 16],

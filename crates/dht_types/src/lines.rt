@@ -128,7 +128,8 @@ pub enum Cause {
 pub enum Line {
     /// The volume, by its bricks' weights.
     Volume(Weights),
-    /// The volume was mounted anew, with these weights of its bricks; there may be more of them now.
+    /// The volume was mounted anew, with these weights of its bricks; there may be more of them
+    /// now.
     Remounted(Weights),
     /// A client's call was accepted.
     Called(CallNo, ClientNo, Call<Gfid>),
@@ -198,8 +199,8 @@ pub enum DumpLine {
     End,
 }
 
-/// Each tree of a legal transcript is one, as `specs/Tree.antt` says: this is a law for readers of the
-/// definitions, and does nothing.
+/// Each tree of a legal transcript is one, as `specs/Tree.antt` says: this is a law for readers of
+/// the definitions, and does nothing.
 pub fn each_tree_is_one()
     ensures { (lines : List Line) → LegalFrom start lines → AreTrees (history_of lines) }
 {}

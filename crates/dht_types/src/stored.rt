@@ -20,8 +20,8 @@ pub struct DirRecord {
 pub enum Main {
     /// This directory.
     Dir(Gfid),
-    /// This file, which is on this brick. Where there is a brick too, a rename is under way by which
-    /// the name will be that of a file on that brick.
+    /// This file, which is on this brick. Where there is a brick too, a rename is under way by
+    /// which the name will be that of a file on that brick.
     File(Gfid, Option<BrickNo>),
     /// A linkto file, as GlusterFS has it: its value, the attribute `trusted.glusterfs.dht.linkto`,
     /// names the brick where the file is.

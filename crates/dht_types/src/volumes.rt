@@ -247,9 +247,9 @@ fn replay_names(alloc: Global, count: usize) -> Result<Vec<Bytes>, AllocError>
 }
 
 impl Volume {
-    /// The volume of these bricks, each with its name and its weight, in this run. It is refused with
-    /// the first fault that it has, in the order in which `VolumeFault` names them; `OutOfMemory`
-    /// comes only where there is none.
+    /// The volume of these bricks, each with its name and its weight, in this run. It is refused
+    /// with the first fault that it has, in the order in which `VolumeFault` names them;
+    /// `OutOfMemory` comes only where there is none.
     pub fn new(
         alloc: Global,
         names: &[Bytes],
@@ -270,8 +270,8 @@ impl Volume {
         })
     }
 
-    /// The volume of a replay, whose brick `b` is named `brick-` and `b` in decimal. It is refused as
-    /// by `new`, and never for a name.
+    /// The volume of a replay, whose brick `b` is named `brick-` and `b` in decimal. It is refused
+    /// as by `new`, and never for a name.
     pub fn replay(alloc: Global, weights: &Weights, run: u32) -> Result<Volume, VolumeFault>
         ensures volume { IfOk result (λ v. v ≡ replay_info weights.now run) }
         ensures faultless { OnOk result (replay_fault_of weights.now run ≡ None) }

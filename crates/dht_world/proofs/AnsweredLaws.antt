@@ -13,7 +13,9 @@ use Rattle.dht_world.proofs.LineLaws.{nat_cases}
 answered_zero : (xs : List (Option Gfid)) (k : ℕ) → k ≡ 0 → answered_in xs k ≡ None
 answered_zero xs k e = ap (λ (b : Bool). if b then None else option_flatten (slice_get xs (k - 1))) ((exact_nat k 0).1 e)
 
-answered_at : (xs : List (Option Gfid)) (k : ℕ) → 0 < k → answered_in xs k ≡ option_flatten (slice_get xs (k - 1))
+answered_at :
+    (xs : List (Option Gfid)) (k : ℕ) → 0 < k
+    → answered_in xs k ≡ option_flatten (slice_get xs (k - 1))
 answered_at xs k l = by (nat_eq k 0) refl
   where
     by : (v : Bool) → nat_eq k 0 ≡ v → (if v then None else option_flatten (slice_get xs (k - 1))) ≡ option_flatten (slice_get xs (k - 1))
@@ -46,7 +48,9 @@ pub answered_beyond : (xs : List (Option Gfid)) (k : ℕ) → length xs < k → 
 answered_beyond xs k l = answered_at xs k (omega arith) ∙ ap option_flatten (none_at xs (k - 1) (omega arith))
 
 -- a call answered
-pub answered_set : (xs : List (Option Gfid)) (k : ℕ) (o : Option Gfid) → 0 < k → k ≤ length xs → put nat_eq (answered_in xs) k o ≡ answered_in (slice_set xs (k - 1) o)
+pub answered_set :
+    (xs : List (Option Gfid)) (k : ℕ) (o : Option Gfid) → 0 < k → k ≤ length xs
+    → put nat_eq (answered_in xs) k o ≡ answered_in (slice_set xs (k - 1) o)
 answered_set xs k o pos l = λ i. λ m. at m i
   where
     same : (m : ℕ) → m ≡ k → o ≡ answered_in (slice_set xs (k - 1) o) m

@@ -1,4 +1,5 @@
--- How what holds of the world is kept by an event: what each lemma here asks of the event, and the events that are no step.
+-- How what holds of the world is kept by an event: what each
+-- lemma here asks of the event, and the events that are no step.
 use Rattle.std.proofs.Common.{◌≡◌, ◌<◌, ◌≤◌, ◌+◌, ℕ, Bool, true, false, List, [], ◌∷◌, ◌++◌, refl, sym, ap, ◌∙◌, subst, inl, length, arith}
 use Rattle.std.specs.Prelude.{Option, Some, None, is_some, nat_eq, if◌then◌else◌, slice_get, slice_set}
 use Rattle.std.proofs.Math.ListN.{length-set}
@@ -39,7 +40,9 @@ grows_refl (Committed t f) = (false, refl)
 grows_refl h = refl
 
 -- to claim something else is what others may do, also to myself
-pub rely_claimed : (d : Disk) (s : History) (p q : ℕ → Claim) (c : ℕ) (r : PendingCall) → Rely (scene d s p (client c) r) (scene d s q (client c) r)
+pub rely_claimed :
+    (d : Disk) (s : History) (p q : ℕ → Claim) (c : ℕ) (r : PendingCall)
+    → Rely (scene d s p (client c) r) (scene d s q (client c) r)
 rely_claimed d s p q c r = record {
   who = refl;
   mine = record { number = refl; call = refl; since = refl; alone = refl; is_first = refl; was_down = refl; has_failed = refl; deeds = refl };
@@ -92,7 +95,9 @@ pub still_up : (s : History) (b : BrickNo) → b.0 < length s.weights → IsStil
 still_up s b there = record { tree = refl; weights = refl; run = refl; calls = refl; pending = refl; callers = refl; called = refl; dead = refl; down = λ i l. put_other nat_eq exact_nat s.down b.0 false i (λ e. omega arith); clean = λ q. q; requests = refl; acts = refl; changes = refl; dir_changes = refl; answered = refl }
 
 -- which bricks are down after a line more
-pub down_after : (past : List Line) (x : Line) (down : ℕ → Bool) → (tells (history_of past) x).down ≡ down → (history_of (past ++ x ∷ [])).down ≡ down
+pub down_after :
+    (past : List Line) (x : Line) (down : ℕ → Bool) → (tells (history_of past) x).down ≡ down
+    → (history_of (past ++ x ∷ [])).down ≡ down
 down_after past x down e = ap (λ (s : History). s.down) (lines_more start past x) ∙ e
 
 module _ {C : Type 0} (g : CallerGhosts C) (laws : TransitionLaws) (stable : (x : C) → IsCallStable (g.stage x)) where

@@ -22,7 +22,9 @@ use Rattle.dht_world.specs.Lines.{tree_lines, step_line, request_lines}
 use Rattle.dht_world.proofs.StepLaws.{lines_are}
 
 -- an event that was refused
-pub block_refused : (s : History) (n : ℕ) (e : Event) (cause : Cause) → cause_of s e ≡ Some cause → Block s n e (Refused n cause ∷ [])
+pub block_refused :
+    (s : History) (n : ℕ) (e : Event) (cause : Cause) → cause_of s e ≡ Some cause
+    → Block s n e (Refused n cause ∷ [])
 block_refused s n e cause is = record {
   first = Refused n cause;
   more = [];
@@ -32,13 +34,19 @@ block_refused s n e cause is = record {
 }
 
 -- the head line of one that was accepted
-pub head_accepted : (s : History) (n : ℕ) (e : Event) (line : Line) → cause_of s e ≡ None → Accepted s e line → Head s n e line
+pub head_accepted :
+    (s : History) (n : ℕ) (e : Event) (line : Line) → cause_of s e ≡ None → Accepted s e line
+    → Head s n e line
 head_accepted s n e line is h = subst (λ (o : Option Cause). MatchOption o (Accepted s e line) (λ x. line ≡ Refused n x)) (sym is) h
 
-pub block_under : (s : History) (n : ℕ) (e : Event) (line : Line) (more : List Line) → cause_of s e ≡ None → Accepted s e line → IsUnder s line more → Block s n e (line ∷ more)
+pub block_under :
+    (s : History) (n : ℕ) (e : Event) (line : Line) (more : List Line) → cause_of s e ≡ None
+    → Accepted s e line → IsUnder s line more → Block s n e (line ∷ more)
 block_under s n e line more is h under = record { first = line; more = more; all = refl; is_head = head_accepted s n e line is h; is_under = under }
 
-pub block_alone : (s : History) (n : ℕ) (e : Event) (line : Line) → cause_of s e ≡ None → Accepted s e line → IsUnder s line [] → Block s n e (line ∷ [])
+pub block_alone :
+    (s : History) (n : ℕ) (e : Event) (line : Line) → cause_of s e ≡ None → Accepted s e line
+    → IsUnder s line [] → Block s n e (line ∷ [])
 block_alone s n e line is h under = block_under s n e line [] is h under
 
 -- under a step stands its tree line, or none, and then the end
@@ -46,7 +54,9 @@ under_on : (k : CallNo) (c : ClientNo) (o : Option TreeStep) → IsUnderStep k c
 under_on k c None = tt
 under_on k c (Some step) = (refl, tt)
 
-under_answered : (k : CallNo) (c : ClientNo) (o : Option TreeStep) (y : Finish) → IsUnderStep k c (tree_lines k o ++ Answered k c y.at y.answer ∷ [])
+under_answered :
+    (k : CallNo) (c : ClientNo) (o : Option TreeStep) (y : Finish)
+    → IsUnderStep k c (tree_lines k o ++ Answered k c y.at y.answer ∷ [])
 under_answered k c None y = (refl, refl)
 under_answered k c (Some step) y = (refl, (refl, refl))
 
@@ -56,7 +66,10 @@ pub record Told (s : History) (c : ℕ) (mine : PendingCall) (k : CallNo) (a : A
   pub step : is_wait r ≡ false → IsStep s c mine (step_line k (client c) a r)
   pub wait : (holder : ClientNo) → r ≡ Wait holder → IsWait s c mine (Waited k (client c) a.brick holder)
 
-on_by : (s : History) (n c : ℕ) (mine : PendingCall) (k : CallNo) (a : Ask) (r : Reply) (x : Reply) → r ≡ x → cause_of s (event.Step c) ≡ None → Told s c mine k a r → Block s n (event.Step c) (request_lines k (client c) a r)
+on_by :
+    (s : History) (n c : ℕ) (mine : PendingCall) (k : CallNo) (a : Ask) (r : Reply) (x : Reply)
+    → r ≡ x → cause_of s (event.Step c) ≡ None → Told s c mine k a r
+    → Block s n (event.Step c) (request_lines k (client c) a r)
 on_by s n c mine k a r (Wait holder) er is h = subst (Block s n (event.Step c)) (sym (ap (request_lines k (client c) a) er)) (record {
   first = Waited k (client c) a.brick holder;
   more = [];
@@ -73,10 +86,18 @@ on_by s n c mine k a r x er is h = subst (Block s n (event.Step c)) (sym (lines_
 })
 
 -- a step, after which the call goes on
-pub block_on : (s : History) (n c : ℕ) (mine : PendingCall) (k : CallNo) (a : Ask) (r : Reply) → cause_of s (event.Step c) ≡ None → Told s c mine k a r → Block s n (event.Step c) (request_lines k (client c) a r)
+pub block_on :
+    (s : History) (n c : ℕ) (mine : PendingCall) (k : CallNo) (a : Ask) (r : Reply)
+    → cause_of s (event.Step c) ≡ None → Told s c mine k a r
+    → Block s n (event.Step c) (request_lines k (client c) a r)
 block_on s n c mine k a r is h = on_by s n c mine k a r r refl is h
 
-answered_by : (s : History) (n c : ℕ) (mine : PendingCall) (k : CallNo) (a : Ask) (r : Reply) (y : Finish) (x : Reply) → r ≡ x → cause_of s (event.Step c) ≡ None → Told s c mine k a r → Block s n (event.Step c) (request_lines k (client c) a r ++ Answered k (client c) y.at y.answer ∷ [])
+answered_by :
+    (s : History) (n c : ℕ) (mine : PendingCall) (k : CallNo) (a : Ask) (r : Reply) (y : Finish)
+    (x : Reply)
+    → r ≡ x → cause_of s (event.Step c) ≡ None → Told s c mine k a r
+    → Block s n (event.Step c)
+    (request_lines k (client c) a r ++ Answered k (client c) y.at y.answer ∷ [])
 answered_by s n c mine k a r y (Wait holder) er is h = subst (λ (xs : List Line). Block s n (event.Step c) (xs ++ Answered k (client c) y.at y.answer ∷ [])) (sym (ap (request_lines k (client c) a) er)) (record {
   first = Waited k (client c) a.brick holder;
   more = Answered k (client c) y.at y.answer ∷ [];
@@ -93,9 +114,14 @@ answered_by s n c mine k a r y x er is h = subst (λ (xs : List Line). Block s n
 })
 
 -- a step, after which the call answers
-pub block_answered : (s : History) (n c : ℕ) (mine : PendingCall) (k : CallNo) (a : Ask) (r : Reply) (y : Finish) → cause_of s (event.Step c) ≡ None → Told s c mine k a r → Block s n (event.Step c) (request_lines k (client c) a r ++ Answered k (client c) y.at y.answer ∷ [])
+pub block_answered :
+    (s : History) (n c : ℕ) (mine : PendingCall) (k : CallNo) (a : Ask) (r : Reply) (y : Finish)
+    → cause_of s (event.Step c) ≡ None → Told s c mine k a r
+    → Block s n (event.Step c)
+    (request_lines k (client c) a r ++ Answered k (client c) y.at y.answer ∷ [])
 block_answered s n c mine k a r y is h = answered_by s n c mine k a r y r refl is h
 
 -- an event that is accepted is not refused
-pub not_refused : {X : Type 0} (s : History) (e : Event) → cause_of s e ≡ None → is_some (cause_of s e) ≡ true → X
+pub not_refused :
+    {X : Type 0} (s : History) (e : Event) → cause_of s e ≡ None → is_some (cause_of s e) ≡ true → X
 not_refused s e is h = absurd (let z : false ≡ true = sym (ap is_some is) ∙ h in cc)

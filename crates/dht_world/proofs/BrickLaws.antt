@@ -34,12 +34,16 @@ use Rattle.dht_invariant.specs.Transition.{FreesClient}
 use Rattle.dht_world.proofs.LineLaws.{nat_cases}
 use Rattle.dht_world.specs.Bricks.{nothing, disk_of, journals_of, contents_at, journal_at, IsReady, ReadyAt, AreReady, volume_of, without_client, remounted_in, SomeBecame, ServedAt}
 
-pub get_set_same : {A : Type 0} (xs : List A) (c : ℕ) (v : A) → c < length xs → slice_get (slice_set xs c v) c ≡ Some v
+pub get_set_same :
+    {A : Type 0} (xs : List A) (c : ℕ) (v : A) → c < length xs
+    → slice_get (slice_set xs c v) c ≡ Some v
 get_set_same [] c v h = absurd (omega arith)
 get_set_same (x ∷ xs) zero v h = refl
 get_set_same (x ∷ xs) (suc c) v h = get_set_same xs c v (omega arith)
 
-pub get_set_other : {A : Type 0} (xs : List A) (c : ℕ) (v : A) (i : ℕ) → i ≢ c → slice_get (slice_set xs c v) i ≡ slice_get xs i
+pub get_set_other :
+    {A : Type 0} (xs : List A) (c : ℕ) (v : A) (i : ℕ) → i ≢ c
+    → slice_get (slice_set xs c v) i ≡ slice_get xs i
 get_set_other [] c v i h = refl
 get_set_other (x ∷ xs) zero v zero h = absurd (h refl)
 get_set_other (x ∷ xs) zero v (suc i) h = refl
@@ -47,7 +51,11 @@ get_set_other (x ∷ xs) (suc c) v zero h = refl
 get_set_other (x ∷ xs) (suc c) v (suc i) h = get_set_other xs c v i (λ e. h (ap suc e))
 
 -- what a list of bricks shows at each place, where one of them is set
-set_at : {B X : Type 0} (show : Option B → X) (bricks : List B) (b : ℕ) (x : B) → b < length bricks → (i : ℕ) → show (slice_get (slice_set bricks b x) i) ≡ put nat_eq (λ j. show (slice_get bricks j)) b (show (Some x)) i
+set_at :
+    {B X : Type 0} (show : Option B → X) (bricks : List B) (b : ℕ) (x : B) → b < length bricks
+    → (i : ℕ)
+    → show (slice_get (slice_set bricks b x) i)
+    ≡ put nat_eq (λ j. show (slice_get bricks j)) b (show (Some x)) i
 set_at show bricks b x l i = put_elim (λ y. show (slice_get (slice_set bricks b x) i) ≡ y) nat_eq exact_nat (λ j. show (slice_get bricks j)) b (show (Some x)) i
     (λ e. subst (λ (j : ℕ). show (slice_get (slice_set bricks b x) j) ≡ show (Some x)) (sym e) (ap show (get_set_same bricks b x l)))
     (λ ne. ap show (get_set_other bricks b x i ne))
@@ -55,7 +63,10 @@ set_at show bricks b x l i = put_elim (λ y. show (slice_get (slice_set bricks b
 -- ---- one brick that is ready
 
 -- a reply of a brick that does not fail
-not_failed : (volume : VolumeInfo) (u : Bool) (b : ℕ) (c : ClientNo) (k : CallNo) (q : Request) (old : BrickState) (r : Reply) (new : BrickState) → IsReady volume u b old → ServesRequest c k q old r new → r ≢ Failed
+not_failed :
+    (volume : VolumeInfo) (u : Bool) (b : ℕ) (c : ClientNo) (k : CallNo) (q : Request)
+    (old : BrickState) (r : Reply) (new : BrickState)
+    → IsReady volume u b old → ServesRequest c k q old r new → r ≢ Failed
 not_failed volume u b c k q old r new h v = λ e. let z : false ≡ true = sym h.unarmed ∙ v.cause e h.faultless in cc
 
 still_false : (r : Reply) (b : Bool) → b ≡ false → unless_down r b false ≡ false
@@ -63,7 +74,10 @@ still_false Down b e = e
 still_false r b e = refl
 
 -- it stays ready
-ready_then : (volume : VolumeInfo) (u : Bool) (b : ℕ) (c : ClientNo) (k : CallNo) (q : Request) (old : BrickState) (r : Reply) (new : BrickState) → IsReady volume u b old → ServesRequest c k q old r new → IsReady volume u b new
+ready_then :
+    (volume : VolumeInfo) (u : Bool) (b : ℕ) (c : ClientNo) (k : CallNo) (q : Request)
+    (old : BrickState) (r : Reply) (new : BrickState)
+    → IsReady volume u b old → ServesRequest c k q old r new → IsReady volume u b new
 ready_then volume u b c k q old r new h v = record {
   number = ap (λ (s : BrickState). s.number) v.same ∙ h.number;
   up = ap (λ (s : BrickState). s.is_up) v.same ∙ h.up;
@@ -73,7 +87,9 @@ ready_then volume u b c k q old r new h v = record {
 }
 
 -- with more room it is as it was
-pub ready_roomy : (volume : VolumeInfo) (u : Bool) (b : ℕ) (old mid : BrickState) → mid ≡ record old { spare = mid.spare } → IsReady volume u b old → IsReady volume u b mid
+pub ready_roomy :
+    (volume : VolumeInfo) (u : Bool) (b : ℕ) (old mid : BrickState)
+    → mid ≡ record old { spare = mid.spare } → IsReady volume u b old → IsReady volume u b mid
 ready_roomy volume u b old mid e h = record {
   number = ap (λ (s : BrickState). s.number) e ∙ h.number;
   up = ap (λ (s : BrickState). s.is_up) e ∙ h.up;
@@ -83,7 +99,9 @@ ready_roomy volume u b old mid e h = record {
 }
 
 -- it went down, or came back
-ready_up : (volume : VolumeInfo) (u v : Bool) (b : ℕ) (old new : BrickState) → new ≡ record old { is_up = v } → IsReady volume u b old → IsReady volume v b new
+ready_up :
+    (volume : VolumeInfo) (u v : Bool) (b : ℕ) (old new : BrickState)
+    → new ≡ record old { is_up = v } → IsReady volume u b old → IsReady volume v b new
 ready_up volume u v b old new e h = record {
   number = ap (λ (s : BrickState). s.number) e ∙ h.number;
   up = ap (λ (s : BrickState). s.is_up) e;
@@ -93,16 +111,22 @@ ready_up volume u v b old new e h = record {
 }
 
 -- a client died
-ready_freed : (volume : VolumeInfo) (u : Bool) (b c : ℕ) (s : BrickState) → IsReady volume u b s → IsReady volume u b (without_client c s)
+ready_freed :
+    (volume : VolumeInfo) (u : Bool) (b c : ℕ) (s : BrickState) → IsReady volume u b s
+    → IsReady volume u b (without_client c s)
 ready_freed volume u b c s h = record { number = h.number; up = h.up; unarmed = h.unarmed; faultless = h.faultless; volume = h.volume }
 
 -- it was mounted anew
-pub ready_remounted : (v w : VolumeInfo) (u : Bool) (b : ℕ) (s : BrickState) → IsReady v u b s → IsReady w u b (remounted_in w s)
+pub ready_remounted :
+    (v w : VolumeInfo) (u : Bool) (b : ℕ) (s : BrickState) → IsReady v u b s
+    → IsReady w u b (remounted_in w s)
 ready_remounted v w u b s h = record { number = h.number; up = h.up; unarmed = h.unarmed; faultless = h.faultless; volume = refl }
 
 -- ---- bricks that are ready
 
-pub brick_is : {B : Type 0} (bricks : List B) (b : ℕ) (old : B) → b < length bricks → old ≡ get_or bricks b old → slice_get bricks b ≡ Some old
+pub brick_is :
+    {B : Type 0} (bricks : List B) (b : ℕ) (old : B) → b < length bricks → old ≡ get_or bricks b old
+    → slice_get bricks b ≡ Some old
 brick_is bricks b old l was = slice_get_read bricks (length bricks) b old refl l was
 
 module _ {B : Type 0} (state : B → BrickState) (ws : List ℕ) (run : ℕ) where
@@ -301,24 +325,37 @@ module _ (f : BrickState → BrickState) where
 
 -- ---- a client's locks were taken away everywhere
 
-pub frees : {B : Type 0} (state : B → BrickState) (c : ℕ) (xs ys : List B) → map state ys ≡ map (without_client c) (map state xs) → FreesClient c (disk_of state xs) (disk_of state ys)
+pub frees :
+    {B : Type 0} (state : B → BrickState) (c : ℕ) (xs ys : List B)
+    → map state ys ≡ map (without_client c) (map state xs)
+    → FreesClient c (disk_of state xs) (disk_of state ys)
 frees state c xs ys e = record {
   count = mapped_length (without_client c) state xs ys e;
   there = λ b l. contents_mapped (without_client c) state (freed c) (λ s. refl) (slice_get xs b) (slice_get ys b) (mapped_at (without_client c) state xs ys e b) (there_is xs b l);
   elsewhere = λ b l. nothing_mapped (without_client c) state (slice_get xs b) (slice_get ys b) (mapped_at (without_client c) state xs ys e b) (none_at xs b l);
 }
 
-pub freed_journals : {B : Type 0} (state : B → BrickState) (c : ℕ) (xs ys : List B) → map state ys ≡ map (without_client c) (map state xs) → journals_of state ys ≡ journals_of state xs
+pub freed_journals :
+    {B : Type 0} (state : B → BrickState) (c : ℕ) (xs ys : List B)
+    → map state ys ≡ map (without_client c) (map state xs)
+    → journals_of state ys ≡ journals_of state xs
 freed_journals state c xs ys e = journals_mapped (without_client c) state (λ s. refl) xs ys e
 
-pub freed_ready : {B : Type 0} (state : B → BrickState) (ws : List ℕ) (run : ℕ) (down : ℕ → Bool) (c : ℕ) (xs ys : List B) → map state ys ≡ map (without_client c) (map state xs) → AreReady state ws run down xs → AreReady state ws run down ys
+pub freed_ready :
+    {B : Type 0} (state : B → BrickState) (ws : List ℕ) (run : ℕ) (down : ℕ → Bool) (c : ℕ)
+    (xs ys : List B)
+    → map state ys ≡ map (without_client c) (map state xs) → AreReady state ws run down xs
+    → AreReady state ws run down ys
 freed_ready state ws run down c xs ys e h b =
     let volume = volume_of (length xs) ws run in
     subst (λ (n : ℕ). ReadyAt state (volume_of n ws run) (not (down b)) b (slice_get ys b)) (sym (mapped_length (without_client c) state xs ys e))
     (ready_mapped (without_client c) state volume volume (not (down b)) b (λ s r. ready_freed volume (not (down b)) b c s r) (slice_get xs b) (slice_get ys b) (mapped_at (without_client c) state xs ys e b) (h b))
 
 -- one brick was set to another with the same contents, or the same journal
-shows_disk : {B : Type 0} (state : B → BrickState) (bricks : List B) (b : ℕ) (old new : B) → b < length bricks → old ≡ get_or bricks b old → (state new).contents ≡ (state old).contents → disk_of state (slice_set bricks b new) ≡ disk_of state bricks
+shows_disk :
+    {B : Type 0} (state : B → BrickState) (bricks : List B) (b : ℕ) (old new : B)
+    → b < length bricks → old ≡ get_or bricks b old → (state new).contents ≡ (state old).contents
+    → disk_of state (slice_set bricks b new) ≡ disk_of state bricks
 shows_disk state bricks b old new l was same =
     let here : slice_get bricks b ≡ Some old = brick_is bricks b old l was in
     λ i. record {
@@ -326,32 +363,52 @@ shows_disk state bricks b old new l was same =
       brick = (λ j. (set_at (contents_at state) bricks b new l j ∙ put_elim (λ y. y ≡ contents_at state (slice_get bricks j)) nat_eq exact_nat (λ m. contents_at state (slice_get bricks m)) b (state new).contents j (λ e. same ∙ (sym (ap (contents_at state) here) ∙ ap (λ (m : ℕ). contents_at state (slice_get bricks m)) (sym e))) (λ ne. refl)) i);
     }
 
-shows_journals : {B : Type 0} (state : B → BrickState) (bricks : List B) (b : ℕ) (old new : B) → b < length bricks → old ≡ get_or bricks b old → (state new).journal ≡ (state old).journal → journals_of state (slice_set bricks b new) ≡ journals_of state bricks
+shows_journals :
+    {B : Type 0} (state : B → BrickState) (bricks : List B) (b : ℕ) (old new : B)
+    → b < length bricks → old ≡ get_or bricks b old → (state new).journal ≡ (state old).journal
+    → journals_of state (slice_set bricks b new) ≡ journals_of state bricks
 shows_journals state bricks b old new l was same =
     let here : slice_get bricks b ≡ Some old = brick_is bricks b old l was in
     λ i. λ j. (set_at (journal_at state) bricks b new l j ∙ put_elim (λ y. y ≡ journal_at state (slice_get bricks j)) nat_eq exact_nat (λ m. journal_at state (slice_get bricks m)) b (state new).journal j (λ e. same ∙ (sym (ap (journal_at state) here) ∙ ap (λ (m : ℕ). journal_at state (slice_get bricks m)) (sym e))) (λ ne. refl)) i
 
 -- or in the same state
-pub same_disk_at : {B : Type 0} (state : B → BrickState) (bricks : List B) (b : ℕ) (old new : B) → b < length bricks → old ≡ get_or bricks b old → state new ≡ state old → disk_of state (slice_set bricks b new) ≡ disk_of state bricks
+pub same_disk_at :
+    {B : Type 0} (state : B → BrickState) (bricks : List B) (b : ℕ) (old new : B)
+    → b < length bricks → old ≡ get_or bricks b old → state new ≡ state old
+    → disk_of state (slice_set bricks b new) ≡ disk_of state bricks
 same_disk_at state bricks b old new l was h = shows_disk state bricks b old new l was (ap (λ (s : BrickState). s.contents) h)
 
-pub same_journals_at : {B : Type 0} (state : B → BrickState) (bricks : List B) (b : ℕ) (old new : B) → b < length bricks → old ≡ get_or bricks b old → state new ≡ state old → journals_of state (slice_set bricks b new) ≡ journals_of state bricks
+pub same_journals_at :
+    {B : Type 0} (state : B → BrickState) (bricks : List B) (b : ℕ) (old new : B)
+    → b < length bricks → old ≡ get_or bricks b old → state new ≡ state old
+    → journals_of state (slice_set bricks b new) ≡ journals_of state bricks
 same_journals_at state bricks b old new l was h = shows_journals state bricks b old new l was (ap (λ (s : BrickState). s.journal) h)
 
 -- where there is no brick there is nothing
-pub nothing_beyond : {B : Type 0} (state : B → BrickState) (bricks : List B) (b : ℕ) → length bricks ≤ b → (disk_of state bricks).brick b ≡ nothing
+pub nothing_beyond :
+    {B : Type 0} (state : B → BrickState) (bricks : List B) (b : ℕ) → length bricks ≤ b
+    → (disk_of state bricks).brick b ≡ nothing
 nothing_beyond state bricks b l = ap (contents_at state) (none_at bricks b l)
 
 -- ---- a brick whose contents and journal are as they were
 
-pub up_disk_at : {B : Type 0} (state : B → BrickState) (bricks : List B) (b : ℕ) (old new : B) (v : Bool) → b < length bricks → old ≡ get_or bricks b old → state new ≡ record (state old) { is_up = v } → disk_of state (slice_set bricks b new) ≡ disk_of state bricks
+pub up_disk_at :
+    {B : Type 0} (state : B → BrickState) (bricks : List B) (b : ℕ) (old new : B) (v : Bool)
+    → b < length bricks → old ≡ get_or bricks b old → state new ≡ record (state old) { is_up = v }
+    → disk_of state (slice_set bricks b new) ≡ disk_of state bricks
 up_disk_at state bricks b old new v l was h = shows_disk state bricks b old new l was (ap (λ (s : BrickState). s.contents) h)
 
-pub up_journals_at : {B : Type 0} (state : B → BrickState) (bricks : List B) (b : ℕ) (old new : B) (v : Bool) → b < length bricks → old ≡ get_or bricks b old → state new ≡ record (state old) { is_up = v } → journals_of state (slice_set bricks b new) ≡ journals_of state bricks
+pub up_journals_at :
+    {B : Type 0} (state : B → BrickState) (bricks : List B) (b : ℕ) (old new : B) (v : Bool)
+    → b < length bricks → old ≡ get_or bricks b old → state new ≡ record (state old) { is_up = v }
+    → journals_of state (slice_set bricks b new) ≡ journals_of state bricks
 up_journals_at state bricks b old new v l was h = shows_journals state bricks b old new l was (ap (λ (s : BrickState). s.journal) h)
 
 -- a directory of which a copy may be made is not the root, and its home is a brick
-may_be_made : (s : Scene) (b : ℕ) (d : Gfid) (n : List ℕ) (g : Gfid) (depth : ℕ) (value : Option (List ℕ)) → IsTree s.history.tree → b < s.disk.count → Changes s b (MakeDir d n g depth value) → MayBeMade s.disk.count g
+may_be_made :
+    (s : Scene) (b : ℕ) (d : Gfid) (n : List ℕ) (g : Gfid) (depth : ℕ) (value : Option (List ℕ))
+    → IsTree s.history.tree → b < s.disk.count → Changes s b (MakeDir d n g depth value)
+    → MayBeMade s.disk.count g
 may_be_made s b d n g depth value tree there m = (
   elim m.takes [
     | inl q ↦ subst (λ (i : ℕ). i < s.disk.count) q.1 there
@@ -369,7 +426,9 @@ may_be_made s b d n g depth value tree there m = (
     place_in_some (Some x) = x.place
 
 -- what may be asked may be sent
-pub may_be_sent : (s : Scene) (b : ℕ) (q : Request) → IsTree s.history.tree → b < s.disk.count → May s b q → MayBeSent s.disk.count q
+pub may_be_sent :
+    (s : Scene) (b : ℕ) (q : Request) → IsTree s.history.tree → b < s.disk.count → May s b q
+    → MayBeSent s.disk.count q
 may_be_sent s b (Lock key mode) tree there h = tt
 may_be_sent s b (Unlock key) tree there h = tt
 may_be_sent s b (OnNames (Look d n)) tree there h = tt
@@ -388,7 +447,10 @@ may_be_sent s b (Seal f) tree there h = tt
 may_be_sent s b q tree there h = absurd h
 
 -- the states of the bricks, where one of them was set to another in the same state
-pub same_states_at : {B X : Type 0} (state : B → X) (bricks : List B) (b : ℕ) (old new : B) → old ≡ get_or bricks b old → state new ≡ state old → map state (slice_set bricks b new) ≡ map state bricks
+pub same_states_at :
+    {B X : Type 0} (state : B → X) (bricks : List B) (b : ℕ) (old new : B)
+    → old ≡ get_or bricks b old → state new ≡ state old
+    → map state (slice_set bricks b new) ≡ map state bricks
 same_states_at state [] b old new was h = refl
 same_states_at state (x ∷ xs) zero old new was h = ap (λ y. y ∷ map state xs) (h ∙ ap state was)
 same_states_at state (x ∷ xs) (suc b) old new was h = ap (λ ys. state x ∷ ys) (same_states_at state xs b old new was h)

@@ -12,7 +12,9 @@ pub record Passes (c : ℕ) (s t : History) : Type 0 where
   pub down : (b : ℕ) → length s.weights ≤ b → t.down b ≡ s.down b
 
 -- a call that was not disturbed by then was not before
-pub undisturbed_before : (c : ℕ) (s t : History) (r q : PendingCall) → Passes c s t → r.number.0 ≤ s.calls → q.number.0 ≡ r.number.0 → q.alone ≡ r.alone → IsUndisturbed t q → IsUndisturbed s r
+pub undisturbed_before :
+    (c : ℕ) (s t : History) (r q : PendingCall) → Passes c s t → r.number.0 ≤ s.calls
+    → q.number.0 ≡ r.number.0 → q.alone ≡ r.alone → IsUndisturbed t q → IsUndisturbed s r
 undisturbed_before c s t r q p l e alone h =
     let calls = p.calls in
     let last = h.last in

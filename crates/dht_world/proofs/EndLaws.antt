@@ -1,5 +1,5 @@
--- What the last line tells of a call that was alone: where it is no answer, and no answer ok or of a file,
--- it tells nothing.
+-- What the last line tells of a call that was alone: where it is
+-- no answer, and no answer ok or of a file, it tells nothing.
 use Rattle.std.proofs.Common.{◌≡◌, ◌≤◌, ◌+◌, Bool, true, false, List, [], ◌∷◌, ◌++◌, refl, sym, ap, ◌∙◌, subst, append_assoc, length, arith}
 use Rattle.std.specs.Prelude.{Option, Some, None}
 use Rattle.dht_types.specs.Gfid.{Entry}
@@ -31,7 +31,8 @@ none_ends [] x e = cc
 none_ends (y ∷ xs) x e = cc
 
 -- the last element of a list, and those before it
-same_last : {A : Type 0} (xs ys : List A) (x y : A) → xs ++ x ∷ [] ≡ ys ++ y ∷ [] → (xs ≡ ys) × (x ≡ y)
+same_last :
+    {A : Type 0} (xs ys : List A) (x y : A) → xs ++ x ∷ [] ≡ ys ++ y ∷ [] → (xs ≡ ys) × (x ≡ y)
 same_last [] [] x y e = (refl, cc)
 same_last [] (b ∷ ys) x y e = absurd (none_ends ys y (let z : [] ≡ ys ++ y ∷ [] = cc in z))
 same_last (a ∷ xs) [] x y e = absurd (none_ends xs x (let z : xs ++ x ∷ [] ≡ [] = cc in sym z))
@@ -51,7 +52,9 @@ is_end (Answered k c at a) = tells_end a
 is_end line = false
 
 -- after another line nothing is told
-not_ended : (past : List Line) (x : Line) (r : PendingCall) (a : Answer) → is_end x ≡ false → tells_end a ≡ true → EndsAlone (past ++ x ∷ []) r a → ⊥
+not_ended :
+    (past : List Line) (x : Line) (r : PendingCall) (a : Answer) → is_end x ≡ false
+    → tells_end a ≡ true → EndsAlone (past ++ x ∷ []) r a → ⊥
 not_ended past x r a e k h =
     let last = (same_last past h.before x (Answered h.number h.client h.point a) h.all).1 in
     let z : false ≡ true = sym e ∙ (ap is_end last ∙ k) in
@@ -63,26 +66,34 @@ no_end_none d = record {
   found = λ e f r h looks first placed. absurd (none_ends h.before (Answered h.number h.client h.point (File f)) h.all);
 }
 
-pub no_end : (d : Disk) (past : List Line) (x : Line) → is_end x ≡ false → EndsWell d (past ++ x ∷ [])
+pub no_end :
+    (d : Disk) (past : List Line) (x : Line) → is_end x ≡ false → EndsWell d (past ++ x ∷ [])
 no_end d past x e = record {
   healed = λ g r h heals. absurd (not_ended past x r Done e refl h);
   found = λ y f r h looks first placed. absurd (not_ended past x r (File f) e refl h);
 }
 
 -- the same of two lines
-pub no_end_two : (d : Disk) (past : List Line) (x y : Line) → is_end y ≡ false → EndsWell d (past ++ x ∷ y ∷ [])
+pub no_end_two :
+    (d : Disk) (past : List Line) (x y : Line) → is_end y ≡ false → EndsWell d (past ++ x ∷ y ∷ [])
 no_end_two d past x y e = subst (EndsWell d) (append_assoc past (x ∷ []) (y ∷ [])) (no_end d (past ++ x ∷ []) y e)
 
-no_end_under : (d : Disk) (past : List Line) (x : Line) (k : CallNo) (o : Option TreeStep) → is_end x ≡ false → EndsWell d (past ++ x ∷ tree_lines k o)
+no_end_under :
+    (d : Disk) (past : List Line) (x : Line) (k : CallNo) (o : Option TreeStep) → is_end x ≡ false
+    → EndsWell d (past ++ x ∷ tree_lines k o)
 no_end_under d past x k None e = no_end d past x e
 no_end_under d past x k (Some step) e = no_end_two d past x (Tree k step) refl
 
 -- a request that was answered, after which its call goes on
-pub no_end_request : (d : Disk) (past : List Line) (k : CallNo) (c : ClientNo) (a : Ask) (r : Reply) → EndsWell d (past ++ request_lines k c a r)
+pub no_end_request :
+    (d : Disk) (past : List Line) (k : CallNo) (c : ClientNo) (a : Ask) (r : Reply)
+    → EndsWell d (past ++ request_lines k c a r)
 no_end_request d past k c a (Wait holder) = no_end d past _ refl
 no_end_request d past k c a r = no_end_under d past (step_line k c a r) k (step_of a.brick.0 a.request r) refl
 
-same_answer : (j k : CallNo) (b c : ClientNo) (p q : Option _) (x y : Answer) → Answered j b p x ≡ Answered k c q y → (b ≡ c) × (x ≡ y)
+same_answer :
+    (j k : CallNo) (b c : ClientNo) (p q : Option _) (x y : Answer)
+    → Answered j b p x ≡ Answered k c q y → (b ≡ c) × (x ≡ y)
 same_answer j k b c p q x y e = (cc, cc)
 
 -- ---- a call answers

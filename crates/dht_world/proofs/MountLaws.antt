@@ -12,17 +12,20 @@ use Rattle.dht_world.specs.Bricks.{disk_of, journals_of, contents_at, journal_at
 use Rattle.dht_world.proofs.BrickLaws.{IsMapped, mapped_at, mapped_length, contents_mapped, journals_mapped, ready_mapped, ready_remounted, nothing_beyond, there_is, none_at}
 use Rattle.dht_world.proofs.NewbornLaws.{new_contents, nothing_served, new_ready}
 
-pub get_left : {A : Type 0} (xs ys : List A) (i : ℕ) → i < length xs → slice_get (xs ++ ys) i ≡ slice_get xs i
+pub get_left :
+    {A : Type 0} (xs ys : List A) (i : ℕ) → i < length xs → slice_get (xs ++ ys) i ≡ slice_get xs i
 get_left [] ys i l = absurd (omega arith)
 get_left (x ∷ xs) ys zero l = refl
 get_left (x ∷ xs) ys (suc i) l = get_left xs ys i (omega arith)
 
-pub get_right : {A : Type 0} (xs ys : List A) (i : ℕ) → slice_get (xs ++ ys) (length xs + i) ≡ slice_get ys i
+pub get_right :
+    {A : Type 0} (xs ys : List A) (i : ℕ) → slice_get (xs ++ ys) (length xs + i) ≡ slice_get ys i
 get_right [] ys i = ap (slice_get ys) (let z : 0 + i ≡ i = omega arith in z)
 get_right (x ∷ xs) ys i = ap (slice_get (x ∷ (xs ++ ys))) (let z : suc (length xs) + i ≡ suc (length xs + i) = omega arith in z) ∙ get_right xs ys i
 
 -- where there is no brick there is no directory
-no_dir_above : {B : Type 0} (state : B → BrickState) (bricks : List B) → NoDirAbove (disk_of state bricks)
+no_dir_above :
+    {B : Type 0} (state : B → BrickState) (bricks : List B) → NoDirAbove (disk_of state bricks)
 no_dir_above state bricks b g l = ap (λ (c : Contents). dir c.store g) (nothing_beyond state bricks b l) ∙ get-empty gfid_cmp g
 
 -- ---- all were mounted anew, and the others came

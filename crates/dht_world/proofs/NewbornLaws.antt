@@ -38,7 +38,10 @@ module _ {B : Type 0} (state : B → BrickState) (v : VolumeInfo) (value : ℕ �
       (subst (λ (m : ℕ). ReadyAt state v true m (slice_get bricks b)) (let z : 0 + b ≡ b = omega arith in z) (new_ready 0 bricks h b))
 
 -- bricks that are all new, each with the range that is planned for it
-pub newborn_all : {B : Type 0} (state : B → BrickState) (v : VolumeInfo) (bricks : List B) → AreNew state v (planned_value v.weights root) 0 bricks → AreNewborn v.weights (disk_of state bricks) (journals_of state bricks)
+pub newborn_all :
+    {B : Type 0} (state : B → BrickState) (v : VolumeInfo) (bricks : List B)
+    → AreNew state v (planned_value v.weights root) 0 bricks
+    → AreNewborn v.weights (disk_of state bricks) (journals_of state bricks)
 newborn_all state v bricks h = record {
   contents = λ b l. new_contents state v (planned_value v.weights root) 0 bricks h b l ∙ ap (λ (m : ℕ). newborn (planned_value v.weights root m)) (let z : 0 + b ≡ b = omega arith in z);
   elsewhere = nothing_beyond state bricks;

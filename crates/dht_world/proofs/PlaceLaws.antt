@@ -41,7 +41,9 @@ use Rattle.dht_world.proofs.ClientLaws.{holders_call}
 use Rattle.dht_world.proofs.RefusalLaws.{with_call, at_called, at_refused_call, under_begun, under_refused}
 
 -- what stands at a place of a list
-pub place_is : {A : Type 0} (xs : List A) (c : ℕ) (old : A) → c < length xs → old ≡ get_or xs c old → slice_get xs c ≡ Some old
+pub place_is :
+    {A : Type 0} (xs : List A) (c : ℕ) (old : A) → c < length xs → old ≡ get_or xs c old
+    → slice_get xs c ≡ Some old
 place_is xs c old l was = slice_get_read xs (length xs) c old refl l was
 
 same_client : {C : Type 0} (x y : C) (m n : CallNo) → Living x m ≡ Living y n → x ≡ y

@@ -54,7 +54,8 @@ same_error : {A : Type 0} (a b : Errno) (r : Result A Errno) → r ≡ Err a →
 same_error a b r ea eb = let e : Err a ≡ Err b = sym ea ∙ eb in cc
 
 -- one of a name has no point
-name_refusals : (o : Option (List ℕ)) (e : Errno) → name_refusal o ≡ Some e → (e ≡ Einval) ⊎ (e ≡ Enametoolong)
+name_refusals :
+    (o : Option (List ℕ)) (e : Errno) → name_refusal o ≡ Some e → (e ≡ Einval) ⊎ (e ≡ Enametoolong)
 name_refusals None e h = absurd (let z : None ≡ Some e = h in cc)
 name_refusals (Some n) e h = by (is_invalid n) (nat_lt 255 (length n)) h
   where
@@ -64,7 +65,9 @@ name_refusals (Some n) e h = by (is_invalid n) (nat_lt 255 (length n)) h
     by false false k = absurd (let z : None ≡ Some e = k in cc)
 
 -- what a tree says to a call in no directory of it
-says_stale : (t : Tree) (call : Call Gfid) (g : Gfid) → t.dirs (directory_of call) ≡ false → answer_of (says t call g) ≡ Some (Fault Estale)
+says_stale :
+    (t : Tree) (call : Call Gfid) (g : Gfid) → t.dirs (directory_of call) ≡ false
+    → answer_of (says t call g) ≡ Some (Fault Estale)
 says_stale t (Lookup d n) g e = ap (λ (b : Bool). answer_of (if b then looked_up (t.names (d, n)) else Refuse Estale)) e
 says_stale t (Create d n) g e = ap (λ (b : Bool). answer_of (if b then created d n g (t.names (d, n)) else Refuse Estale)) e
 says_stale t (Mkdir d n) g e = ap (λ (b : Bool). answer_of (if b then made_dir (depth_of t d) d n g (t.names (d, n)) else Refuse Estale)) e
@@ -73,7 +76,10 @@ says_stale t (Rmdir d n) g e = ap (λ (b : Bool). answer_of (if b then removed t
 says_stale t (Heal d) g e = ap (λ (b : Bool). answer_of (if b then Say Done else Refuse Estale)) e
 
 -- a directory whose home is none of the bricks is none of the tree
-pub home_beyond : (d : Disk) (s : History) (p : ℕ → Claim) (g : Gfid) → Rattle.dht_section.specs.Invariant.Invariant d s p → ((b : ℕ) → d.count ≤ b → d.brick b ≡ nothing) → d.count ≤ home g → s.tree.dirs g ≡ false
+pub home_beyond :
+    (d : Disk) (s : History) (p : ℕ → Claim) (g : Gfid)
+    → Rattle.dht_section.specs.Invariant.Invariant d s p
+    → ((b : ℕ) → d.count ≤ b → d.brick b ≡ nothing) → d.count ≤ home g → s.tree.dirs g ≡ false
 home_beyond d s p g kept beyond l =
     (kept.things.dirs g).homed
     ∙ ap (λ (o : Option DirRecord). is_some o) (ap (λ (c : Contents). dir c.store g) (beyond (home g) l) ∙ get-empty gfid_cmp g)
@@ -87,19 +93,27 @@ first_none : (a b : Option Errno) → first_refusal a b ≡ None → a ≡ None
 first_none None b e = refl
 first_none (Some x) b e = absurd (let z : Some x ≡ None = e in cc)
 
-pub named_is : (count : ℕ) (what : Call Gfid) → refusal_at_start count what ≡ None → refusal_at_once what ≡ None
+pub named_is :
+    (count : ℕ) (what : Call Gfid) → refusal_at_start count what ≡ None
+    → refusal_at_once what ≡ None
 named_is count what e = first_none (refusal_at_once what) (refusal_of_home count (directory_of what)) e
 
 -- no refusal is to be heeded
-pub heeds_none : (r : PendingCall) (a : Rattle.dht_types.specs.declared.calls.Answer.Answer) → refusal_at_once r.call ≡ None → HeedsRefusal r a
+pub heeds_none :
+    (r : PendingCall) (a : Rattle.dht_types.specs.declared.calls.Answer.Answer)
+    → refusal_at_once r.call ≡ None → HeedsRefusal r a
 heeds_none r a e = subst (λ (o : Option Errno). MatchOption o (Unit {0}) (λ x. a ≡ Fault x)) (sym e) tt
 
 -- ---- what stands under the call line
 
-pub under_begun : (line : ℕ) (k : CallNo) (c : ClientNo) (o : Option Errno) → IsRefusal o (Ok tt) → IsUnderCall line k c o []
+pub under_begun :
+    (line : ℕ) (k : CallNo) (c : ClientNo) (o : Option Errno) → IsRefusal o (Ok tt)
+    → IsUnderCall line k c o []
 under_begun line k c o h = subst (λ (x : Option Errno). IsUnderCall line k c x []) (sym (begun_is o h)) (inl refl)
 
-pub under_refused : (line : ℕ) (k : CallNo) (c : ClientNo) (o : Option Errno) (e : Errno) → IsRefusal o (Err e) → IsUnderCall line k c o (Answered k c (refusal_point line e) (Fault e) ∷ [])
+pub under_refused :
+    (line : ℕ) (k : CallNo) (c : ClientNo) (o : Option Errno) (e : Errno) → IsRefusal o (Err e)
+    → IsUnderCall line k c o (Answered k c (refusal_point line e) (Fault e) ∷ [])
 under_refused line k c (Some x) e h = ap (λ (y : Errno). Answered k c (refusal_point line y) (Fault y) ∷ []) (same_error e x (Err e) refl h)
 under_refused line k c None e h = elim h [
   | inl q ↦ absurd (let z : Err e ≡ Ok tt = q in cc)

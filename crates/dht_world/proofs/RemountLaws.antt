@@ -39,7 +39,9 @@ later_run : (s : History) (x : Line) → 0 < s.run → 0 < (with_line s x).run
 later_run s (Remounted w) l = omega arith
 later_run s x l = subst (λ (n : ℕ). 0 < n) (sym (run_with_line s x tt)) l
 
-some_run : (s : History) (xs : List Line) → 0 < s.run → 0 < (Rattle.dht_types.specs.History.with_lines s xs).run
+some_run :
+    (s : History) (xs : List Line) → 0 < s.run
+    → 0 < (Rattle.dht_types.specs.History.with_lines s xs).run
 some_run s [] l = l
 some_run s (x ∷ xs) l = some_run (with_line s x) xs (later_run s x l)
 
@@ -49,7 +51,8 @@ none_listed : (xs : List ℕ) → ((c : ℕ) → IsListed c xs → ⊥) → is_e
 none_listed [] h = refl
 none_listed (x ∷ xs) h = absurd (h x (inl refl))
 
-none_pending : (s : History) → CallsCounted s → is_empty s.callers ≡ true → (c : ℕ) → s.pending c ≡ None
+none_pending :
+    (s : History) → CallsCounted s → is_empty s.callers ≡ true → (c : ℕ) → s.pending c ≡ None
 none_pending s h e c = none_if (s.pending c) (λ r q. not_empty c s.callers (h.listed c r q) e)
 
 some_not_empty : (xs : List ℕ) (c : ℕ) → IsListed c xs → is_empty xs ≡ false
@@ -57,7 +60,9 @@ some_not_empty [] c l = absurd l
 some_not_empty (x ∷ xs) c l = refl
 
 -- such a remount is not refused
-not_called : (s : History) (ws : List ℕ) → remount_cause s ws ≡ None → (is_empty s.callers ≡ true) × (length s.weights ≤ length ws)
+not_called :
+    (s : History) (ws : List ℕ) → remount_cause s ws ≡ None
+    → (is_empty s.callers ≡ true) × (length s.weights ≤ length ws)
 not_called s ws = by (is_empty s.callers) (nat_lt (length ws) (length s.weights)) (ltb-false (length ws) (length s.weights))
   where
     by : (b fewer : Bool) → (fewer ≡ false → length s.weights ≤ length ws) → (if not b then Some Open else if fewer then Some Fewer else None) ≡ None → (b ≡ true) × (length s.weights ≤ length ws)
@@ -71,7 +76,9 @@ not_called s ws = by (is_empty s.callers) (nat_lt (length ws) (length s.weights)
 abbrev Found : {A : Type 0} → (A → Bool) → List A → Type 0
 Found {A} p xs = (i : ℕ) × (x : A) × (slice_get xs i ≡ Some x) × (p x ≡ true)
 
-found_by : {A : Type 0} (p : A → Bool) (x : A) (xs : List A) (b : Bool) → p x ≡ b → (b || list_any p xs) ≡ true → (list_any p xs ≡ true → Found p xs) → Found p (x ∷ xs)
+found_by :
+    {A : Type 0} (p : A → Bool) (x : A) (xs : List A) (b : Bool) → p x ≡ b
+    → (b || list_any p xs) ≡ true → (list_any p xs ≡ true → Found p xs) → Found p (x ∷ xs)
 found_by p x xs true ev e more = (0, x, refl, ev)
 found_by p x xs false ev e more = (let m = more e in (suc m.0, m.1, m.2, m.3))
 
@@ -84,7 +91,9 @@ neither true b e = absurd (let z : true ≡ false = e in cc)
 neither false b e = (refl, e)
 
 -- or none does
-no_place : {A : Type 0} (p : A → Bool) (xs : List A) → list_any p xs ≡ false → (i : ℕ) (x : A) → slice_get xs i ≡ Some x → p x ≡ false
+no_place :
+    {A : Type 0} (p : A → Bool) (xs : List A) → list_any p xs ≡ false → (i : ℕ) (x : A)
+    → slice_get xs i ≡ Some x → p x ≡ false
 no_place p [] e i x h = absurd (let z : None ≡ Some x = h in cc)
 no_place p (y ∷ ys) e zero x h = ap p (let z : Some x ≡ Some y = sym h in let q : x ≡ y = cc in q) ∙ (neither (p y) (list_any p ys) e).0
 no_place p (y ∷ ys) e (suc i) x h = no_place p ys (neither (p y) (list_any p ys) e).1 i x h

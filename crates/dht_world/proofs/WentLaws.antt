@@ -102,11 +102,15 @@ nil_end : {A : Type 0} (xs : List A) → xs ++ [] ≡ xs
 nil_end [] = refl
 nil_end (x ∷ xs) = ap (λ ys. x ∷ ys) (nil_end xs)
 
-same_at : {A B : Type 0} (g : List A → List B) (f : ℕ → List A) (h : ℕ → List B) (k : ℕ) (xs : List A) → ((i : ℕ) → g (f i) ≡ h i) → g xs ≡ h k → (i : ℕ) → g (put nat_eq f k xs i) ≡ h i
+same_at :
+    {A B : Type 0} (g : List A → List B) (f : ℕ → List A) (h : ℕ → List B) (k : ℕ) (xs : List A)
+    → ((i : ℕ) → g (f i) ≡ h i) → g xs ≡ h k → (i : ℕ) → g (put nat_eq f k xs i) ≡ h i
 same_at g f h k xs same new i = put_elim (λ x. g x ≡ h i) nat_eq exact_nat f k xs i (λ e. new ∙ ap h (sym e)) (λ ne. same i)
 
 -- two lists of which each got another element at one place
-put_elim2 : {A B : Type 0} (P : A → B → Type 0) (f : ℕ → A) (g : ℕ → B) (k : ℕ) (x : A) (y : B) (m : ℕ) → P x y → ((i : ℕ) → P (f i) (g i)) → P (put nat_eq f k x m) (put nat_eq g k y m)
+put_elim2 :
+    {A B : Type 0} (P : A → B → Type 0) (f : ℕ → A) (g : ℕ → B) (k : ℕ) (x : A) (y : B) (m : ℕ)
+    → P x y → ((i : ℕ) → P (f i) (g i)) → P (put nat_eq f k x m) (put nat_eq g k y m)
 put_elim2 P f g k x y m new same = elim (nat_cases m k) [
   | inl e ↦ (let u : put nat_eq f k x m ≡ x = ap (put nat_eq f k x) e ∙ put_same nat_eq exact_nat f k x in
       let v : put nat_eq g k y m ≡ y = ap (put nat_eq g k y) e ∙ put_same nat_eq exact_nat g k y in
@@ -117,7 +121,10 @@ put_elim2 P f g k x y m new same = elim (nat_cases m k) [
 ]
 
 -- what the brick noted, and what its line tells of it
-noted : (r : Reply) (es : List JournalEntry) (e : JournalEntry) (acts : List Act) (x : Act) → map act_of es ≡ acts → act_of e ≡ x → x.reply ≡ reply_kind r → map act_of (unless_down r es (es ++ e ∷ [])) ≡ acts_after acts x
+noted :
+    (r : Reply) (es : List JournalEntry) (e : JournalEntry) (acts : List Act) (x : Act)
+    → map act_of es ≡ acts → act_of e ≡ x → x.reply ≡ reply_kind r
+    → map act_of (unless_down r es (es ++ e ∷ [])) ≡ acts_after acts x
 noted Down es e acts x h ex er = h ∙ sym (ap (λ (b : Bool). if b then acts else acts ++ x ∷ []) (ap is_down er))
 noted (Carried g) es e acts x h ex er = acts_more es e ∙ (λ i. h i ++ ex i ∷ []) ∙ sym (ap (λ (b : Bool). if b then acts else acts ++ x ∷ []) (ap is_down er))
 noted (Declined w) es e acts x h ex er = acts_more es e ∙ (λ i. h i ++ ex i ∷ []) ∙ sym (ap (λ (b : Bool). if b then acts else acts ++ x ∷ []) (ap is_down er))
@@ -126,22 +133,32 @@ noted Failed es e acts x h ex er = acts_more es e ∙ (λ i. h i ++ ex i ∷ [])
 noted NoMemory es e acts x h ex er = acts_more es e ∙ (λ i. h i ++ ex i ∷ []) ∙ sym (ap (λ (b : Bool). if b then acts else acts ++ x ∷ []) (ap is_down er))
 
 -- the slots of an entry that changed nothing, or that did
-slots_kept : (r : Reply) (es : List JournalEntry) (e : JournalEntry) (slots : List Entry) → changed_slots es ≡ slots → is_change e.request e.reply ≡ false → changed_slots (unless_down r es (es ++ e ∷ [])) ≡ slots
+slots_kept :
+    (r : Reply) (es : List JournalEntry) (e : JournalEntry) (slots : List Entry)
+    → changed_slots es ≡ slots → is_change e.request e.reply ≡ false
+    → changed_slots (unless_down r es (es ++ e ∷ [])) ≡ slots
 slots_kept Down es e slots h n = h
 slots_kept r es e slots h n = slots_more es e ∙ (ap (λ (x : Bool). changed_slots es ++ (if x then (e.gfid, e.name) ∷ [] else [])) n ∙ (nil_end (changed_slots es) ∙ h))
 
 -- the slots of an entry that is passed over
-copied_passed : (r : Reply) (es : List JournalEntry) (e : JournalEntry) (slots : List Entry) → IsSublist slots (copied_slots es) → IsSublist slots (copied_slots (unless_down r es (es ++ e ∷ [])))
+copied_passed :
+    (r : Reply) (es : List JournalEntry) (e : JournalEntry) (slots : List Entry)
+    → IsSublist slots (copied_slots es)
+    → IsSublist slots (copied_slots (unless_down r es (es ++ e ∷ [])))
 copied_passed Down es e slots h = h
 copied_passed r es e slots h = subst (IsSublist slots) (sym (copied_more es e)) (sublist_passed slots (copied_slots es) (copied_slots (e ∷ [])) h)
 
 -- a step is of a request that was carried out
-step_carried : (b : ℕ) (q : Request) (r : Reply) (x : TreeStep) → step_of b q r ≡ Some x → (y : List JournalEntry) (z : List JournalEntry) → unless_down r y z ≡ z
+step_carried :
+    (b : ℕ) (q : Request) (r : Reply) (x : TreeStep) → step_of b q r ≡ Some x
+    → (y : List JournalEntry) (z : List JournalEntry) → unless_down r y z ≡ z
 step_carried b q (Carried g) x e y z = refl
 step_carried b q Down x e y z = absurd (let w : None ≡ Some x = e in cc)
 step_carried b q r x e y z = refl
 
-step_reached : (b : ℕ) (q : Request) (r : Reply) (x : TreeStep) → step_of b q r ≡ Some x → is_down (reply_kind r) ≡ false
+step_reached :
+    (b : ℕ) (q : Request) (r : Reply) (x : TreeStep) → step_of b q r ≡ Some x
+    → is_down (reply_kind r) ≡ false
 step_reached b q (Carried g) x e = refl
 step_reached b q Down x e = absurd (let w : None ≡ Some x = e in cc)
 step_reached b q r x e = refl

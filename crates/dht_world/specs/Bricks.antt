@@ -24,7 +24,11 @@ use Rattle.dht_section.specs.Disk.{Disk, ChangesOneBrick}
 
 -- where there is no brick there is nothing
 abbrev pub nothing : Contents
-nothing = record { store = record { dirs = empty; slots = empty; files = empty }; opens = no_opens; locks = no_locks }
+nothing = record {
+  store = record { dirs = empty; slots = empty; files = empty };
+  opens = no_opens;
+  locks = no_locks;
+}
 
 abbrev pub contents_at : {B : Type 0} → (B → BrickState) → Option B → Contents
 contents_at state None = nothing
@@ -36,13 +40,17 @@ journal_at state (Some b) = (state b).journal
 
 -- the bricks, by what each contains
 abbrev pub disk_of : {B : Type 0} → (B → BrickState) → List B → Disk
-disk_of state bricks = record { count = length bricks; brick = λ i. contents_at state (slice_get bricks i) }
+disk_of state bricks = record {
+  count = length bricks;
+  brick = λ i. contents_at state (slice_get bricks i);
+}
 
 -- and by what each served
 abbrev pub journals_of : {B : Type 0} → (B → BrickState) → List B → ℕ → List JournalEntry
 journals_of state bricks i = journal_at state (slice_get bricks i)
 
--- a brick of a replay over this volume: it has this number, it is up or not, it never fails, and it knows the volume
+-- a brick of a replay over this volume: it has this number,
+-- it is up or not, it never fails, and it knows the volume
 pub record IsReady (v : VolumeInfo) (is_up : Bool) (b : ℕ) (s : BrickState) : Type 0 where
   pub number : s.number ≡ b
   pub up : s.is_up ≡ is_up
@@ -58,9 +66,12 @@ ReadyAt state v is_up b (Some brick) = IsReady v is_up b (state brick)
 abbrev pub volume_of : ℕ → List ℕ → ℕ → VolumeInfo
 volume_of count ws run = record { names = replay_names count; weights = ws; run = run }
 
--- each brick is ready: its number is its place, it is up unless it is one of those that are down, and it knows the volume of these bricks, of these weights in this run
-abbrev pub AreReady : {B : Type 0} → (B → BrickState) → List ℕ → ℕ → (down : ℕ → Bool) → List B → Type 0
-AreReady state ws run down bricks = (b : ℕ) → ReadyAt state (volume_of (length bricks) ws run) (not (down b)) b (slice_get bricks b)
+-- each brick is ready: its number is its place, it is up unless it is one of those
+-- that are down, and it knows the volume of these bricks, of these weights in this run
+abbrev pub AreReady :
+    {B : Type 0} → (B → BrickState) → List ℕ → ℕ → (down : ℕ → Bool) → List B → Type 0
+AreReady state ws run down bricks =
+    (b : ℕ) → ReadyAt state (volume_of (length bricks) ws run) (not (down b)) b (slice_get bricks b)
 
 -- no brick is down
 abbrev pub none_down : ℕ → Bool
@@ -73,12 +84,14 @@ act_of e = record { client = e.client; call = e.call; request = e.request; reply
 -- the slots of the requests that changed the tree
 abbrev pub changed_slots : List JournalEntry → List Entry
 changed_slots [] = []
-changed_slots (e ∷ es) = if is_change e.request e.reply then (e.gfid, e.name) ∷ changed_slots es else changed_slots es
+changed_slots (e ∷ es) =
+    if is_change e.request e.reply then (e.gfid, e.name) ∷ changed_slots es else changed_slots es
 
 -- and of those that made or dropped a copy of a directory
 abbrev pub copied_slots : List JournalEntry → List Entry
 copied_slots [] = []
-copied_slots (e ∷ es) = if is_dir_change e.request e.reply then (e.gfid, e.name) ∷ copied_slots es else copied_slots es
+copied_slots (e ∷ es) =
+    if is_dir_change e.request e.reply then (e.gfid, e.name) ∷ copied_slots es else copied_slots es
 
 -- the first list is the second without some of its elements
 abbrev pub IsSublist : {A : Type 0} → List A → List A → Type 0
@@ -86,9 +99,9 @@ IsSublist [] ys = Unit {0}
 IsSublist (x ∷ xs) [] = ⊥
 IsSublist (x ∷ xs) (y ∷ ys) = ((x ≡ y) × IsSublist xs ys) ⊎ IsSublist (x ∷ xs) ys
 
--- each brick's journal is, in order, its step lines, and the tree lines under them are of its entries'
--- slots: of each that changed a file's name, and of some that made or dropped a copy of a directory, which
--- is a step of the tree only at the directory's home
+-- each brick's journal is, in order, its step lines, and the tree lines under them are of
+-- its entries' slots: of each that changed a file's name, and of some that made or
+-- dropped a copy of a directory, which is a step of the tree only at the directory's home
 pub record Logged (journals : ℕ → List JournalEntry) (s : History) : Type 0 where
   pub steps : (b : ℕ) → map act_of (journals b) ≡ s.acts b
   pub slots : (b : ℕ) → changed_slots (journals b) ≡ s.changes b
@@ -110,7 +123,8 @@ AreNoted journals s [] = Unit {0}
 AreNoted journals s (line ∷ lines) =
     IsNoted journals s line × AreNoted journals (with_line s line) lines
 
--- a new brick of this number, in a volume of these weights: it has the root's record alone, with the range that is planned for the brick
+-- a new brick of this number, in a volume of these weights: it has the
+-- root's record alone, with the range that is planned for the brick
 abbrev pub new_brick : List ℕ → ℕ → Contents
 new_brick ws b = newborn (planned_value ws root b)
 
@@ -130,8 +144,8 @@ pub record IsNew (v : VolumeInfo) (value : Option (List ℕ)) (b : ℕ) (s : Bri
   pub newborn : IsNewborn b v value s
   pub faultless : s.is_faultless ≡ true
 
--- the bricks are new, the first of them has this number, and the root of each has the attribute that
--- is meant for it
+-- the bricks are new, the first of them has this number, and
+-- the root of each has the attribute that is meant for it
 abbrev pub AreNew : {B : Type 0} → (B → BrickState) → VolumeInfo
     → (value : ℕ → Option (List ℕ)) → ℕ → List B → Type 0
 AreNew state v value n [] = Unit {0}
@@ -166,12 +180,22 @@ AreReadyInEither state v w down bricks = (b : ℕ)
     → ReadyAt state v (not (down b)) b (slice_get bricks b)
     ⊎ ReadyAt state w (not (down b)) b (slice_get bricks b)
 
--- one brick answered a request: that it is down, exactly where it is and the request is no unlock; else by its row, or memory ran out. It noted what it answered, unless it is down. The others did not change
-pub record ServedAt {B : Type 0} (state : B → BrickState) (down : ℕ → Bool) (c : ClientNo) (k : CallNo) (a : Ask) (old : List B) (r : Reply) (new : List B) : Type 0 where
+-- one brick answered a request: that it is down, exactly where it is
+-- and the request is no unlock; else by its row, or memory ran out. It
+-- noted what it answered, unless it is down. The others did not change
+pub record ServedAt {B : Type 0} (state : B → BrickState) (down : ℕ → Bool) (c : ClientNo)
+    (k : CallNo) (a : Ask) (old : List B) (r : Reply) (new : List B) : Type 0 where
   pub after : Contents
-  pub served : ServesOrFails (row (replay_names (length old)) c k a.request ((disk_of state old).brick a.brick.0)) ((disk_of state old).brick a.brick.0) r after
+  pub served :
+      ServesOrFails
+      (row (replay_names (length old)) c k a.request ((disk_of state old).brick a.brick.0))
+      ((disk_of state old).brick a.brick.0) r after
   pub is_down : (r ≡ Down) ↔ (is_unreachable (not (down a.brick.0)) a.request ≡ true)
   pub sound : r ≢ Failed
   pub memory : NeverTakesMemory a.request → r ≢ NoMemory
   pub changes : ChangesOneBrick (disk_of state old) a.brick.0 after (disk_of state new)
-  pub noted : journals_of state new ≡ put nat_eq (journals_of state old) a.brick.0 (unless_down r (journals_of state old a.brick.0) (journals_of state old a.brick.0 ++ entry_of c k a.request r ∷ []))
+  pub noted :
+      journals_of state new
+      ≡ put nat_eq (journals_of state old) a.brick.0
+      (unless_down r (journals_of state old a.brick.0)
+      (journals_of state old a.brick.0 ++ entry_of c k a.request r ∷ []))

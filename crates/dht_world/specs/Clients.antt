@@ -35,9 +35,10 @@ claim_at g (Some (Living x n)) = if g.is_busy x then (g.stage x).claims else no_
 abbrev pub claims_of : {C : Type 0} → CallerGhosts C → List (Place C) → ℕ → Claim
 claims_of g places c = claim_at g (slice_get places c)
 
--- the client's call is pending, and was not to be refused at once; its program knows what it has to;
--- and a call that nobody disturbed so far answers in time, if that stays so
-pub record Works {C : Type 0} (g : CallerGhosts C) (d : Disk) (s : History) (claims : ℕ → Claim) (c : ℕ) (x : C) (n : CallNo) : Type 0 where
+-- the client's call is pending, and was not to be refused at once; its program knows what
+-- it has to; and a call that nobody disturbed so far answers in time, if that stays so
+pub record Works {C : Type 0} (g : CallerGhosts C) (d : Disk) (s : History) (claims : ℕ → Claim)
+    (c : ℕ) (x : C) (n : CallNo) : Type 0 where
   pub mine : PendingCall
   pub runs : s.pending c ≡ Some mine
   pub number : mine.number ≡ n
@@ -45,26 +46,32 @@ pub record Works {C : Type 0} (g : CallerGhosts C) (d : Disk) (s : History) (cla
   pub called : s.called c ≡ true
   pub begun : mine.since ≤ s.size
   pub knows : (g.stage x).knows (scene d s claims (client c) mine)
-  pub in_time : IsUndisturbed s mine → mine.steps + (g.stage x).variant ≤ cost (length s.weights) mine.call
+  pub in_time :
+      IsUndisturbed s mine → mine.steps + (g.stage x).variant ≤ cost (length s.weights) mine.call
 
--- no call of the client is pending, and it knows no layout if it has not called since the volume was mounted
+-- no call of the client is pending, and it knows no layout
+-- if it has not called since the volume was mounted
 pub record Rests {C : Type 0} (g : CallerGhosts C) (s : History) (c : ℕ) (x : C) : Type 0 where
   pub none : s.pending c ≡ None
   pub fresh : s.called c ≡ false → g.is_new x ≡ true
 
 -- a client that lives has its place's number; one that is idle or dead has no pending call, nor is
 -- there one where no client is
-abbrev pub ClientFits : {C : Type 0} → CallerGhosts C → Disk → History → (ℕ → Claim) → ℕ → Option (Place C) → Type 0
+abbrev pub ClientFits :
+    {C : Type 0} → CallerGhosts C → Disk → History → (ℕ → Claim) → ℕ → Option (Place C) → Type 0
 ClientFits g d s claims c None = s.pending c ≡ None
 ClientFits g d s claims c (Some Dead) = (s.dead c ≡ true) × (s.pending c ≡ None)
 ClientFits g d s claims c (Some (Living x n)) =
-    (s.dead c ≡ false) × (g.number x ≡ client c) × MatchBool (g.is_busy x) (Works g d s claims c x n) (Rests g s c x)
+    (s.dead c ≡ false) × (g.number x ≡ client c)
+    × MatchBool (g.is_busy x) (Works g d s claims c x n) (Rests g s c x)
 
--- a client of a new world: it lives, has its place's number, is idle, has not called, and knows no layout
+-- a client of a new world: it lives, has its place's
+-- number, is idle, has not called, and knows no layout
 abbrev pub IsNewAt : {C : Type 0} → CallerGhosts C → ℕ → Option (Place C) → Type 0
 IsNewAt g c None = Unit {0}
 IsNewAt g c (Some Dead) = ⊥
-IsNewAt g c (Some (Living x n)) = (g.number x ≡ client c) × (g.is_busy x ≡ false) × (n.0 ≡ 0) × (g.is_new x ≡ true)
+IsNewAt g c (Some (Living x n)) =
+    (g.number x ≡ client c) × (g.is_busy x ≡ false) × (n.0 ≡ 0) × (g.is_new x ≡ true)
 
 abbrev pub AreNewClients : {C : Type 0} → CallerGhosts C → List (Place C) → Type 0
 AreNewClients g places = (c : ℕ) → IsNewAt g c (slice_get places c)
@@ -81,10 +88,13 @@ abbrev pub is_busy_at : {C : Type 0} → CallerGhosts C → Place C → Bool
 is_busy_at g (Living x n) = g.is_busy x
 is_busy_at g Dead = false
 
--- the first cause for which an event of the client of a place is refused; where one lives, these are the causes while no call of it is pending, and while one is
-abbrev pub place_cause : {C : Type 0} → CallerGhosts C → Option (Place C) → (idle busy : Option Cause) → Option Cause
+-- the first cause for which an event of the client of a place is refused; where
+-- one lives, these are the causes while no call of it is pending, and while one is
+abbrev pub place_cause :
+    {C : Type 0} → CallerGhosts C → Option (Place C) → (idle busy : Option Cause) → Option Cause
 place_cause g None idle busy = Some cause.Unknown
-place_cause g (Some p) idle busy = if is_dead p then Some cause.Dead else if is_busy_at g p then busy else idle
+place_cause g (Some p) idle busy =
+    if is_dead p then Some cause.Dead else if is_busy_at g p then busy else idle
 
 -- a client lives here that has a pending call
 pub record IsBusy {C : Type 0} (g : CallerGhosts C) (p : Place C) : Type 0 where
@@ -101,7 +111,8 @@ pub record IsIdle {C : Type 0} (g : CallerGhosts C) (p : Place C) : Type 0 where
   pub idle : g.is_busy client ≡ false
 
 -- the pending call of a place has this number, and sends this request next
-pub record Asks {C : Type 0} (g : CallerGhosts C) (p : Place C) (k : CallNo) (a : Ask) : Type 0 where
+pub record Asks {C : Type 0} (g : CallerGhosts C) (p : Place C) (k : CallNo) (a : Ask)
+    : Type 0 where
   pub client : C
   pub is : p ≡ Living client k
   pub asks : a ≡ (g.stage client).asks
@@ -124,7 +135,8 @@ pub record Starts {C : Type 0} (g : CallerGhosts C)
   pub variant : OnOk begun ((g.stage after).variant ≤ cost (length ws) call)
 
 -- the client of a place took the reply to its request
-pub record Takes {C : Type 0} (g : CallerGhosts C) (old : Place C) (r : Reply) (at : ℕ) (answer : Option Finish) (new : Place C) : Type 0 where
+pub record Takes {C : Type 0} (g : CallerGhosts C) (old : Place C) (r : Reply) (at : ℕ)
+    (answer : Option Finish) (new : Place C) : Type 0 where
   pub before : C
   pub number : CallNo
   pub was : old ≡ Living before number

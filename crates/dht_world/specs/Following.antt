@@ -1,4 +1,5 @@
--- How the lines of a transcript come from the events of a schedule, one event after the other, and how soon a call answers.
+-- How the lines of a transcript come from the events of a schedule,
+-- one event after the other, and how soon a call answers.
 use Rattle.std.specs.Prelude.{ℕ, ◌+◌, ◌<◌, ◌≤◌, ◌≡◌, ◌≢◌, ◌⊎◌, ◌↔◌, Bool, true, false, not, nat_lt, if◌then◌else◌, Option, Some, None, is_some, MatchOption, List, [], ◌∷◌, ◌++◌, length}
 use Rattle.dht_types.specs.Calls.{named_call, refusal_at_start}
 use Rattle.dht_types.specs.Cost.{cost}
@@ -25,9 +26,11 @@ use Rattle.dht_types.specs.declared.lines.Line.TheVariants.{Volume, Remounted, C
 
 -- ---- which events are refused
 
--- why an event of a client is refused: there are 64 clients, and those that died do nothing; else it may be for this
+-- why an event of a client is refused: there are 64 clients,
+-- and those that died do nothing; else it may be for this
 abbrev pub client_cause : History → ℕ → Option Cause → Option Cause
-client_cause s c other = if nat_lt c 64 then (if s.dead c then Some Dead else other) else Some Unknown
+client_cause s c other =
+    if nat_lt c 64 then (if s.dead c then Some Dead else other) else Some Unknown
 
 -- a call is refused that names a directory by the answer of a call that has answered none
 abbrev pub answer_cause : Option (Call Gfid) → Option Cause
@@ -79,7 +82,8 @@ IsSpent s e = ⊥
 
 -- ---- the head line of an event
 
--- a step of a call is one request to one brick. It is told that the brick is down exactly where the brick is, and the request is no unlock; an unlock is carried out
+-- a step of a call is one request to one brick. It is told that the brick is down
+-- exactly where the brick is, and the request is no unlock; an unlock is carried out
 pub record IsStep (s : History) (c : ℕ) (r : PendingCall) (line : Line) : Type 0 where
   pub brick : BrickNo
   pub request : RequestKind
@@ -109,7 +113,8 @@ Accepted s (event.Call c call) line =
     (what : Call Gfid) × (named_call s.answered call ≡ Some what)
     × (line ≡ Called (record { 0 = s.calls + 1 }) (record { 0 = c }) what)
 -- a step is one of the client's pending call
-Accepted s (event.Step c) line = (r : PendingCall) × (s.pending c ≡ Some r) × (IsStep s c r line ⊎ IsWait s c r line)
+Accepted s (event.Step c) line =
+    (r : PendingCall) × (s.pending c ≡ Some r) × (IsStep s c r line ⊎ IsWait s c r line)
 Accepted s (event.Down b) line = line ≡ WentDown (record { 0 = b })
 Accepted s (event.Up b) line = line ≡ CameUp (record { 0 = b })
 Accepted s (event.Die c) line = line ≡ Died (record { 0 = c })
@@ -168,13 +173,18 @@ pub record Block (s : History) (n : ℕ) (e : Event) (lines : List Line) : Type 
 -- the lines come from the events, the first of which is of the schedule's n-th line
 abbrev pub ComesFrom : History → ℕ → List Event → List Line → Type 0
 ComesFrom s n [] lines = lines ≡ []
-ComesFrom s n (e ∷ es) lines = (block : List Line) × (rest : List Line) × (lines ≡ block ++ rest) × Block s n e block × ComesFrom (with_lines s block) (n + 1) es rest
+ComesFrom s n (e ∷ es) lines =
+    (block : List Line) × (rest : List Line) × (lines ≡ block ++ rest) × Block s n e block
+    × ComesFrom (with_lines s block) (n + 1) es rest
 
 -- ---- how soon a call answers
 
--- a call that nobody disturbed takes no step once it has used up its cost, and is never told to wait
+-- a call that nobody disturbed takes no step once it
+-- has used up its cost, and is never told to wait
 abbrev pub InTime : History → Line → Type 0
-InTime s (Stepped k c b q r) = (o : PendingCall) → s.pending c.0 ≡ Some o → IsUndisturbed s o → o.steps < cost (length s.weights) o.call
+InTime s (Stepped k c b q r) =
+    (o : PendingCall) → s.pending c.0 ≡ Some o → IsUndisturbed s o
+    → o.steps < cost (length s.weights) o.call
 InTime s (Waited k c b h) = (o : PendingCall) → s.pending c.0 ≡ Some o → IsUndisturbed s o → ⊥
 InTime s (Volume w) = Unit {0}
 InTime s (Remounted w) = Unit {0}

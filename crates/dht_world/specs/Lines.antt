@@ -1,4 +1,5 @@
--- The lines of a request that was answered: its step line, and the tree line of the step that it did; or its wait line.
+-- The lines of a request that was answered: its step line, and
+-- the tree line of the step that it did; or its wait line.
 use Rattle.std.specs.Prelude.{Option, Some, None, List, [], ◌∷◌}
 use Rattle.dht_types.specs.declared.identifiers.ClientNo.{ClientNo}
 use Rattle.dht_types.specs.declared.identifiers.CallNo.{CallNo}

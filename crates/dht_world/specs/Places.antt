@@ -28,7 +28,8 @@ IsLed b c w past =
     w.clients.items w.weights (summary_of w) past
 
 -- and its bricks are ready; and what the last line tells holds
-pub record IsAt {B C : Type 0} (b : BrickGhosts B) (c : CallerGhosts C) (w : World B C) (past : List Line) : Type 0 where
+pub record IsAt {B C : Type 0} (b : BrickGhosts B) (c : CallerGhosts C) (w : World B C)
+    (past : List Line) : Type 0 where
   pub led : IsLed b c w past
   pub ready : AreReady b.state w.weights w.run (history_of past).down w.bricks.items
   pub ends : EndsWell (disk_of b.state w.bricks.items) past
@@ -87,24 +88,33 @@ pub record StaysInPart {B C : Type 0} (b : BrickGhosts B)
 abbrev pub IsRefused : History → Event → Type 0
 IsRefused s event = is_some (cause_of s event) ≡ true
 
--- these lines came of the event of the schedule's n-th line, and the world is where they lead to, where each lock is held by a client whose call is pending; an event that is refused changes nothing
-pub record Advances {B C : Type 0} (b : BrickGhosts B) (c : CallerGhosts C) (old new : World B C) (n : ℕ) (event : Event) (past lines : List Line) : Type 0 where
+-- these lines came of the event of the schedule's n-th line, and the
+-- world is where they lead to, where each lock is held by a client
+-- whose call is pending; an event that is refused changes nothing
+pub record Advances {B C : Type 0} (b : BrickGhosts B) (c : CallerGhosts C) (old new : World B C)
+    (n : ℕ) (event : Event) (past lines : List Line) : Type 0 where
   pub at : IsAt b c new (past ++ lines)
   pub block : Block (history_of past) n event lines
   pub held : HoldersCall (disk_of b.state new.bricks.items) (history_of (past ++ lines))
   pub refused : IsRefused (history_of past) event → StaysSilent b old new
 
 -- the event's lines were appended to those of before
-abbrev pub Adds : {B C : Type 0} → BrickGhosts B → CallerGhosts C → (old new : World B C) → ℕ → Event → (past before after : List Line) → Type 0
-Adds b c old new n event past before after = (lines : List Line) × (after ≡ before ++ lines) × Advances b c old new n event past lines
+abbrev pub Adds :
+    {B C : Type 0} → BrickGhosts B → CallerGhosts C → (old new : World B C) → ℕ → Event
+    → (past before after : List Line) → Type 0
+Adds b c old new n event past before after =
+    (lines : List Line) × (after ≡ before ++ lines) × Advances b c old new n event past lines
 
 -- wherever the world is, the event is not refused; and it is somewhere
-pub record IsAccepted {B C : Type 0} (b : BrickGhosts B) (c : CallerGhosts C) (w : World B C) (event : Event) : Type 0 where
+pub record IsAccepted {B C : Type 0} (b : BrickGhosts B) (c : CallerGhosts C) (w : World B C)
+    (event : Event) : Type 0 where
   pub past : List Line
   pub at : IsAt b c w past
   pub accepted : (lines : List Line) → IsAt b c w lines → cause_of (history_of lines) event ≡ None
 
 -- what an event that is accepted makes of the world, whichever line of the schedule it is of
-abbrev pub Comes : {B C : Type 0} → BrickGhosts B → CallerGhosts C → (old new : World B C) → Event → (before after : List Line) → Type 0
+abbrev pub Comes :
+    {B C : Type 0} → BrickGhosts B → CallerGhosts C → (old new : World B C) → Event
+    → (before after : List Line) → Type 0
 Comes b c old new event before after =
     (n : ℕ) (past : List Line) → IsAt b c old past → Adds b c old new n event past before after

@@ -54,7 +54,8 @@ pub record IsSummary (n : Summary) (s : History) : Type 0 where
 
 -- what holds of bricks, journals, clients and summary where the lines tell this history; what is no
 -- brick is not down
-pub record Fit {C : Type 0} (g : CallerGhosts C) (d : Disk) (js : ℕ → List JournalEntry) (places : List (Place C)) (ws : List ℕ) (n : Summary) (s : History) : Type 0 where
+pub record Fit {C : Type 0} (g : CallerGhosts C) (d : Disk) (js : ℕ → List JournalEntry)
+    (places : List (Place C)) (ws : List ℕ) (n : Summary) (s : History) : Type 0 where
   pub kept : Invariant d s (claims_of g places)
   pub early : Early d s
   pub logged : Logged js s
@@ -65,7 +66,8 @@ pub record Fit {C : Type 0} (g : CallerGhosts C) (d : Disk) (js : ℕ → List J
   pub each : (c : ℕ) → ClientFits g d s (claims_of g places) c (slice_get places c)
 
 -- the world is where these lines lead to
-pub record At {C : Type 0} (g : CallerGhosts C) (d : Disk) (js : ℕ → List JournalEntry) (places : List (Place C)) (ws : List ℕ) (n : Summary) (past : List Line) : Type 0 where
+pub record At {C : Type 0} (g : CallerGhosts C) (d : Disk) (js : ℕ → List JournalEntry)
+    (places : List (Place C)) (ws : List ℕ) (n : Summary) (past : List Line) : Type 0 where
   pub legal : Legal past
   pub in_time : InTimeFrom start past
   pub noted : AreNoted js start past
@@ -81,14 +83,16 @@ pub record EndsAlone (lines : List Line) (r : PendingCall) (a : Answer) : Type 0
   pub runs : (history_of before).pending client.0 ≡ Some r
   pub alone : IsAlone (history_of before) r
 
--- where it is the answer ok of a heal, the directory is whole on these bricks, and so is each above it
+-- where it is the answer ok of a heal, the directory
+-- is whole on these bricks, and so is each above it
 abbrev pub HealsWhole : Disk → List Line → Type 0
 HealsWhole d lines =
     (g : Gfid) (r : PendingCall) → EndsAlone lines r Done → r.call ≡ Heal g
     → IsHealed d (history_of lines).tree g
 
--- where it is a file, and the answer of a lookup that was its client's first call since the volume was
--- mounted, and the name is placed on these bricks, the call took one step more than there are bricks at most
+-- where it is a file, and the answer of a lookup that was its client's
+-- first call since the volume was mounted, and the name is placed on
+-- these bricks, the call took one step more than there are bricks at most
 abbrev pub FindsFirst : Disk → List Line → Type 0
 FindsFirst d lines =
     (e : Entry) (f : Gfid) (r : PendingCall) → EndsAlone lines r (File f) → r.call ≡ Lookup e.0 e.1
@@ -101,4 +105,6 @@ pub record EndsWell (d : Disk) (lines : List Line) : Type 0 where
 
 -- each lock is held by a client that has a pending call
 abbrev pub HoldersCall : Disk → History → Type 0
-HoldersCall d s = (b : ℕ) (key : Key) (c : ℕ) (m : Mode) → b < d.count → holders d b key c ≡ Some m → is_some (s.pending c) ≡ true
+HoldersCall d s =
+    (b : ℕ) (key : Key) (c : ℕ) (m : Mode) → b < d.count → holders d b key c ≡ Some m
+    → is_some (s.pending c) ≡ true

@@ -91,10 +91,10 @@ fn free_client<B: Brick>(bricks: &mut Vec<B>, client: ClientNo)
 }
 
 impl<B: Brick, C: Caller> World<B, C> {
-    /// The world of new bricks of these weights and new clients, in the first run, after the volume's
-    /// line. Each brick has its place as its number and the range of the root that is planned for it,
-    /// knows the volume, is up, and does not fail. Each client has its place as its number, is idle,
-    /// and has not called.
+    /// The world of new bricks of these weights and new clients, in the first run, after the
+    /// volume's line. Each brick has its place as its number and the range of the root that is
+    /// planned for it, knows the volume, is up, and does not fail. Each client has its place as its
+    /// number, is idle, and has not called.
     pub fn new(
         alloc: Global,
         weights: Weights,
@@ -193,8 +193,8 @@ impl<B: Brick, C: Caller> World<B, C> {
         }
     }
 
-    /// Whether an event that is refused for this cause, or for none, is a step that is accepted though
-    /// the run has had all its steps.
+    /// Whether an event that is refused for this cause, or for none, is a step that is accepted
+    /// though the run has had all its steps.
     fn is_spent(&self, event: &Event, cause: Option<Cause>) -> bool
         ensures { result ≡ (is_none cause && is_step event.now
             && nat_le step_limit self.now.requests) }
@@ -369,11 +369,11 @@ impl<B: Brick, C: Caller> World<B, C> {
         }
     }
 
-    /// One event that brings no bricks, that of this line of the schedule; its lines are appended. It
-    /// does not happen where it is a step and the run has had all its steps, nor where memory runs
-    /// out: then nothing has happened. Where its last line is the answer ok of a heal that was the
-    /// only call in its span, each brick has the heal's directory and each above it then, and their
-    /// ranges have no hole and no overlap.
+    /// One event that brings no bricks, that of this line of the schedule; its lines are appended.
+    /// It does not happen where it is a step and the run has had all its steps, nor where memory
+    /// runs out: then nothing has happened. Where its last line is the answer ok of a heal that was
+    /// the only call in its span, each brick has the heal's directory and each above it then, and
+    /// their ranges have no hole and no overlap.
     pub fn event(
         &mut self,
         alloc: Global,

@@ -33,8 +33,8 @@ fn at_home(brick: BrickNo, directory: Gfid, step: TreeStep) -> Option<TreeStep>
     }
 }
 
-/// The step of the tree that a brick's reply to a request stands for, if any. A directory is made and
-/// dropped on each brick, but only at its home is that a step of the tree.
+/// The step of the tree that a brick's reply to a request stands for, if any. A directory is made
+/// and dropped on each brick, but only at its home is that a step of the tree.
 pub fn step_of(brick: BrickNo, request: &Request, reply: &Reply) -> Option<TreeStep>
     ensures { result ≡ step_of brick.0 request.now reply.now }
 {

@@ -76,8 +76,8 @@ impl<C: Caller> Place<C> {
         }
     }
 
-    /// The client's pending call takes the reply to its request, and is finished or not. `at` is the
-    /// number of the call's last line.
+    /// The client's pending call takes the reply to its request, and is finished or not. `at` is
+    /// the number of the call's last line.
     pub fn take(&mut self, reply: Reply, at: u64) -> Option<Finish>
         requires { IsBusy C.Caller self.old }
         ensures { Takes C.Caller self.old reply at result self.new }

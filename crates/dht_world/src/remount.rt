@@ -109,10 +109,11 @@ impl<B: Brick, C: Caller> World<B, C> {
         Ok(())
     }
 
-    /// A remount with these weights, that of this line of the schedule; its line is appended. `fresh`
-    /// are the bricks that come, in the order of their numbers; they are dropped where the remount is
-    /// refused. Where memory runs out the remount has not happened, but some bricks may have been
-    /// mounted anew already and know the volume that was to be; so no other event may come then.
+    /// A remount with these weights, that of this line of the schedule; its line is appended.
+    /// `fresh` are the bricks that come, in the order of their numbers; they are dropped where the
+    /// remount is refused. Where memory runs out the remount has not happened, but some bricks may
+    /// have been mounted anew already and know the volume that was to be; so no other event may
+    /// come then.
     pub fn remount(
         &mut self,
         alloc: Global,

@@ -10,18 +10,24 @@ use Rattle.dht_xattr.specs.Layout.{HasHole, HasOverlap, covers}
 use Rattle.dht_xattr.specs.Faults.{is_open_behind, is_shared_at_first, has_hole, has_overlap}
 use Rattle.dht_xattr.proofs.LayoutLaws.{counted, counted_two, count_some, count_two}
 
-some_at : (ranges : List (Option Range)) (test : Option Range → Bool) (k : ℕ) (o : Option Range) → k < length ranges → get_or ranges k None ≡ o → test o ≡ true → list_any test ranges ≡ true
+some_at :
+    (ranges : List (Option Range)) (test : Option Range → Bool) (k : ℕ) (o : Option Range)
+    → k < length ranges → get_or ranges k None ≡ o → test o ≡ true → list_any test ranges ≡ true
 some_at ranges test k o within at pass = list_any_at test ranges k None within (ap test at ∙ pass)
 
 -- the end of a range that contains a hash
-contains_parts : (r : Range) (hash : ℕ) → contains (Some r) hash ≡ true → (r.first ≤ hash) × (hash ≤ r.last)
+contains_parts :
+    (r : Range) (hash : ℕ) → contains (Some r) hash ≡ true → (r.first ≤ hash) × (hash ≤ r.last)
 contains_parts r hash t =
     let parts = and_parts (nat_le r.first hash) (nat_le hash r.last) t in (leb-true _ _ parts.0, leb-true _ _ parts.1)
 
-contains_from : (r : Range) (hash : ℕ) → r.first ≤ hash → hash ≤ r.last → contains (Some r) hash ≡ true
+contains_from :
+    (r : Range) (hash : ℕ) → r.first ≤ hash → hash ≤ r.last → contains (Some r) hash ≡ true
 contains_from r hash low high = and_from (nat_le r.first hash) (nat_le hash r.last) (le-leb _ _ low) (le-leb _ _ high)
 
-open_hole : (ranges : List (Option Range)) (o : Option Range) → is_open_behind ranges o ≡ true → HasHole ranges
+open_hole :
+    (ranges : List (Option Range)) (o : Option Range) → is_open_behind ranges o ≡ true
+    → HasHole ranges
 open_hole ranges None t = absurd (true≢false (sym t))
 open_hole ranges (Some r) t =
     let parts = and_parts (nat_lt r.last 4294967295) (covers ranges (r.last + 1) == 0) t in
@@ -29,7 +35,9 @@ open_hole ranges (Some r) t =
     (r.last + 1, omega arith, eqb-true _ _ parts.1)
 
 -- a hash behind one that is in some range
-covered_next : (ranges : List (Option Range)) (h k : ℕ) (o : Option Range) → suc h < 2 ^ 32 → list_any (is_open_behind ranges) ranges ≡ false → k < length ranges → get_or ranges k None ≡ o
+covered_next :
+    (ranges : List (Option Range)) (h k : ℕ) (o : Option Range) → suc h < 2 ^ 32
+    → list_any (is_open_behind ranges) ranges ≡ false → k < length ranges → get_or ranges k None ≡ o
     → contains o h ≡ true → 0 < covers ranges (suc h)
 covered_next ranges h k None below closed within at t = absurd (true≢false (sym t))
 covered_next ranges h k (Some r) below closed within at t =
@@ -48,7 +56,9 @@ covered_next ranges h k (Some r) below closed within at t =
     zero_of : (n : ℕ) → n < 1 → n ≡ 0
     zero_of n h = omega arith
 
-covered : (ranges : List (Option Range)) (h : ℕ) → h < 2 ^ 32 → (covers ranges 0 == 0) ≡ false → list_any (is_open_behind ranges) ranges ≡ false → 0 < covers ranges h
+covered :
+    (ranges : List (Option Range)) (h : ℕ) → h < 2 ^ 32 → (covers ranges 0 == 0) ≡ false
+    → list_any (is_open_behind ranges) ranges ≡ false → 0 < covers ranges h
 covered ranges zero below first closed = let some = eqb-false (covers ranges 0) 0 first in omega arith
 covered ranges (suc h) below first closed =
     let (k, within, at) = counted (λ range. contains range h) ranges (covered ranges h (omega arith) first closed) in
@@ -68,14 +78,18 @@ has_hole_is ranges = (
       absurd (omega arith)),
 )
 
-shared_overlap : (ranges : List (Option Range)) (o : Option Range) → is_shared_at_first ranges o ≡ true → HasOverlap ranges
+shared_overlap :
+    (ranges : List (Option Range)) (o : Option Range) → is_shared_at_first ranges o ≡ true
+    → HasOverlap ranges
 shared_overlap ranges None t = absurd (true≢false (sym t))
 shared_overlap ranges (Some r) t =
     let parts = and_parts (nat_lt r.first 4294967296) (nat_le 2 (covers ranges r.first)) t in
     (r.first, ltb-true _ _ parts.0, leb-true _ _ parts.1)
 
 -- of two ranges that share a hash the one that begins later begins in both
-first_shared : (ranges : List (Option Range)) (h i j : ℕ) (o p : Option Range) → h < 2 ^ 32 → i < j → j < length ranges → get_or ranges i None ≡ o → get_or ranges j None ≡ p
+first_shared :
+    (ranges : List (Option Range)) (h i j : ℕ) (o p : Option Range) → h < 2 ^ 32 → i < j
+    → j < length ranges → get_or ranges i None ≡ o → get_or ranges j None ≡ p
     → contains o h ≡ true → contains p h ≡ true → has_overlap ranges ≡ true
 first_shared ranges h i j None p below before within at_i at_j s t = absurd (true≢false (sym s))
 first_shared ranges h i j (Some q) None below before within at_i at_j s t = absurd (true≢false (sym t))
@@ -92,7 +106,8 @@ first_shared ranges h i j (Some q) (Some r) below before within at_i at_j s t =
     (cases_lt q.first r.first)
 
 -- a layout has an overlap exactly where the test says so
-pub has_overlap_is : (ranges : List (Option Range)) → (has_overlap ranges ≡ true) ↔ HasOverlap ranges
+pub has_overlap_is :
+    (ranges : List (Option Range)) → (has_overlap ranges ≡ true) ↔ HasOverlap ranges
 has_overlap_is ranges = (
   λ t. let (k, o, within, at, pass) = Any-from_list_any (is_shared_at_first ranges) ranges t in shared_overlap ranges o pass,
   λ (h, below, two).

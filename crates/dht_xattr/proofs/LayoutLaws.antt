@@ -13,21 +13,29 @@ some_is_not : (b : ℕ) → ◌≡◌ {A = Option ℕ} (Some b) None → ⊥
 some_is_not b same = cc
 
 -- an element that passes counts one, and any other none
-count_yes : {X : Type 0} (p : X → Bool) (x : X) (xs : List X) → p x ≡ true → count_by p (x ∷ xs) ≡ suc (count_by p xs)
+count_yes :
+    {X : Type 0} (p : X → Bool) (x : X) (xs : List X) → p x ≡ true
+    → count_by p (x ∷ xs) ≡ suc (count_by p xs)
 count_yes p x xs pass =
     sum_by-cons (λ y. cond (p y) 1 0) x xs ∙ (ap (λ (n : ℕ). n + count_by p xs) (cond-true (p x) 1 0 pass) ∙ omega arith)
 
-count_no : {X : Type 0} (p : X → Bool) (x : X) (xs : List X) → p x ≡ false → count_by p (x ∷ xs) ≡ count_by p xs
+count_no :
+    {X : Type 0} (p : X → Bool) (x : X) (xs : List X) → p x ≡ false
+    → count_by p (x ∷ xs) ≡ count_by p xs
 count_no p x xs fail =
     sum_by-cons (λ y. cond (p y) 1 0) x xs ∙ (ap (λ (n : ℕ). n + count_by p xs) (cond-false (p x) 1 0 fail) ∙ omega arith)
 
-count_none : {X : Type 0} (p : X → Bool) (xs : List X) → ((k : ℕ) (d : X) → k < length xs → p (get_or xs k d) ≡ false) → count_by p xs ≡ 0
+count_none :
+    {X : Type 0} (p : X → Bool) (xs : List X)
+    → ((k : ℕ) (d : X) → k < length xs → p (get_or xs k d) ≡ false) → count_by p xs ≡ 0
 count_none p [] fail = refl
 count_none p (x ∷ xs) fail =
     count_no p x xs (fail 0 x (omega arith)) ∙ count_none p xs (λ k d h. fail (suc k) d (omega arith))
 
 -- one element passes and no other does
-pub count_one : {X : Type 0} (p : X → Bool) (xs : List X) (i : ℕ) (d : X) → i < length xs → p (get_or xs i d) ≡ true
+pub count_one :
+    {X : Type 0} (p : X → Bool) (xs : List X) (i : ℕ) (d : X) → i < length xs
+    → p (get_or xs i d) ≡ true
     → ((k : ℕ) (e : X) → k < length xs → p (get_or xs k e) ≡ true → k ≡ i) → count_by p xs ≡ 1
 count_one p [] i d h pass only = absurd (omega arith)
 count_one p (x ∷ xs) zero d h pass only =
@@ -39,7 +47,9 @@ count_one p (x ∷ xs) (suc i) d h pass only =
     count_no p x xs fail ∙ count_one p xs i d (omega arith) pass (λ k e l t. let same = only (suc k) e (omega arith) t in omega arith)
 
 -- where one passes, the place of some element that does
-pub counted : {X : Type 0} (p : X → Bool) (xs : List X) → 0 < count_by p xs → (k : ℕ) × (k < length xs) × ((d : X) → p (get_or xs k d) ≡ true)
+pub counted :
+    {X : Type 0} (p : X → Bool) (xs : List X) → 0 < count_by p xs
+    → (k : ℕ) × (k < length xs) × ((d : X) → p (get_or xs k d) ≡ true)
 counted p [] some = absurd (omega arith)
 counted p (x ∷ xs) some = ⊎_elim
     (λ pass. (0, omega arith, λ d. pass))
@@ -56,7 +66,9 @@ counted_two p (x ∷ xs) some = ⊎_elim
     (cases_Bool (p x))
 
 -- an element that passes is counted, and two are
-pub count_some : {X : Type 0} (p : X → Bool) (xs : List X) (k : ℕ) (d : X) → k < length xs → p (get_or xs k d) ≡ true → 0 < count_by p xs
+pub count_some :
+    {X : Type 0} (p : X → Bool) (xs : List X) (k : ℕ) (d : X) → k < length xs
+    → p (get_or xs k d) ≡ true → 0 < count_by p xs
 count_some p [] k d h pass = absurd (omega arith)
 count_some p (x ∷ xs) zero d h pass = let more = count_yes p x xs pass in omega arith
 count_some p (x ∷ xs) (suc k) d h pass = ⊎_elim
@@ -64,7 +76,9 @@ count_some p (x ∷ xs) (suc k) d h pass = ⊎_elim
     (λ fail. let same = count_no p x xs fail in let some = count_some p xs k d (omega arith) pass in omega arith)
     (cases_Bool (p x))
 
-pub count_two : {X : Type 0} (p : X → Bool) (xs : List X) (i j : ℕ) (d : X) → i < j → j < length xs → p (get_or xs i d) ≡ true → p (get_or xs j d) ≡ true → 2 ≤ count_by p xs
+pub count_two :
+    {X : Type 0} (p : X → Bool) (xs : List X) (i j : ℕ) (d : X) → i < j → j < length xs
+    → p (get_or xs i d) ≡ true → p (get_or xs j d) ≡ true → 2 ≤ count_by p xs
 count_two p [] i j d before h at_i at_j = absurd (omega arith)
 count_two p (x ∷ xs) i zero d before h at_i at_j = absurd (omega arith)
 count_two p (x ∷ xs) zero (suc j) d before h at_i at_j =
@@ -77,14 +91,18 @@ count_two p (x ∷ xs) (suc i) (suc j) d before h at_i at_j =
     (cases_Bool (p x))
 
 -- where an element passes, the first that does
-pub first_place : {X : Type 0} (p : X → Bool) (xs : List X) (k : ℕ) (d : X) → k < length xs → p (get_or xs k d) ≡ true
+pub first_place :
+    {X : Type 0} (p : X → Bool) (xs : List X) (k : ℕ) (d : X) → k < length xs
+    → p (get_or xs k d) ≡ true
     → (position_or_len p xs ≤ k) × (position p xs ≡ Some (position_or_len p xs))
 first_place p xs k d h pass =
     let early : position_or_len p xs ≤ k = ⊎_elim (λ late. absurd (true≢false (sym pass ∙ fails_before_first p xs k d late))) (λ le. le) (cases_lt k (position_or_len p xs)) in
     (early, cond-true _ (Some (position_or_len p xs)) None (lt-ltb (position_or_len p xs) (length xs) (omega arith)))
 
 -- an element that passes, where none before it does, is the first
-pub first_is : {X : Type 0} (p : X → Bool) (xs : List X) (k : ℕ) (d : X) → k < length xs → p (get_or xs k d) ≡ true
+pub first_is :
+    {X : Type 0} (p : X → Bool) (xs : List X) (k : ℕ) (d : X) → k < length xs
+    → p (get_or xs k d) ≡ true
     → ((i : ℕ) → i < k → p (get_or xs i d) ≡ false) → position p xs ≡ Some k
 first_is p xs k d h pass fails =
     let (early, found) = first_place p xs k d h pass in
@@ -95,7 +113,9 @@ first_is p xs k d h pass fails =
     (cases_lt (position_or_len p xs) k))
 
 -- where no element passes, there is no first
-pub no_first : {X : Type 0} (p : X → Bool) (xs : List X) (d : X) → ((i : ℕ) → i < length xs → p (get_or xs i d) ≡ false) → position p xs ≡ None
+pub no_first :
+    {X : Type 0} (p : X → Bool) (xs : List X) (d : X)
+    → ((i : ℕ) → i < length xs → p (get_or xs i d) ≡ false) → position p xs ≡ None
 no_first {X} p xs d fails = by (position p xs) refl
   where
     by : (o : Option ℕ) → position p xs ≡ o → position p xs ≡ None
@@ -105,23 +125,29 @@ no_first {X} p xs d fails = by (position p xs) refl
         absurd (true≢false (sym at ∙ fails k within))
 
 -- the holder is a brick that has a place in the layout
-pub holder_within : (ranges : List (Option Range)) (hash b : ℕ) → holder ranges hash ≡ Some b → b < length ranges
+pub holder_within :
+    (ranges : List (Option Range)) (hash b : ℕ) → holder ranges hash ≡ Some b → b < length ranges
 holder_within ranges hash b found = (position-Some (λ range. contains range hash) ranges b None found).0
 
 -- a hash that is in some range has a holder
-pub holder_some : (ranges : List (Option Range)) (hash : ℕ) → 0 < covers ranges hash → (b : ℕ) × (b < length ranges) × (holder ranges hash ≡ Some b)
+pub holder_some :
+    (ranges : List (Option Range)) (hash : ℕ) → 0 < covers ranges hash
+    → (b : ℕ) × (b < length ranges) × (holder ranges hash ≡ Some b)
 holder_some ranges hash some =
     let (k, h, at) = counted (λ range. contains range hash) ranges some in
     let (early, found) = first_place (λ range. contains range hash) ranges k None h (at None) in
     (position_or_len (λ range. contains range hash) ranges, omega arith, found)
 
 -- a hash that has no holder is in no range
-pub holder_none : (ranges : List (Option Range)) (hash : ℕ) → holder ranges hash ≡ None → covers ranges hash ≡ 0
+pub holder_none :
+    (ranges : List (Option Range)) (hash : ℕ) → holder ranges hash ≡ None → covers ranges hash ≡ 0
 holder_none ranges hash none = ⊎_elim
     (λ some. let (b, inside, held) = holder_some ranges hash some in absurd (some_is_not b (sym held ∙ none)))
     (λ zero. omega arith)
     (cases_lt 0 (covers ranges hash))
 
 -- the holder's range contains the hash
-pub holder_contains : (ranges : List (Option Range)) (hash b : ℕ) → holder ranges hash ≡ Some b → contains (get_or ranges b None) hash ≡ true
+pub holder_contains :
+    (ranges : List (Option Range)) (hash b : ℕ) → holder ranges hash ≡ Some b
+    → contains (get_or ranges b None) hash ≡ true
 holder_contains ranges hash b held = (position-Some (λ range. contains range hash) ranges b None held).1

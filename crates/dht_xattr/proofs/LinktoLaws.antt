@@ -19,7 +19,9 @@ use Rattle.dht_xattr.proofs.LayoutLaws.{first_place, first_is, no_first}
 use Rattle.dht_types.specs.Linkto.{linkto_value, ends_in_zero, without_zero, linked_brick}
 
 -- the place of a name of a volume
-pub place_of_name : (v : VolumeInfo) (b : ℕ) (name : List ℕ) → IsVolume v → slice_get v.names b ≡ Some name → position (λ other. bytes_eq other name) v.names ≡ Some b
+pub place_of_name :
+    (v : VolumeInfo) (b : ℕ) (name : List ℕ) → IsVolume v → slice_get v.names b ≡ Some name
+    → position (λ other. bytes_eq other name) v.names ≡ Some b
 place_of_name v b name good at =
     let test = λ (other : List ℕ). bytes_eq other name in
     let here : get_or v.names b [] ≡ name = get_or_from_slice_get v.names b name [] at in
@@ -31,7 +33,9 @@ place_of_name v b name good at =
     found ∙ ap Some place
 
 -- a name of no brick has no place
-no_place : (names : List (List ℕ)) (name : List ℕ) (o : Option ℕ) → position (λ other. bytes_eq other name) names ≡ o → ¬ (Contains names name) → o ≡ None
+no_place :
+    (names : List (List ℕ)) (name : List ℕ) (o : Option ℕ)
+    → position (λ other. bytes_eq other name) names ≡ o → ¬ (Contains names name) → o ≡ None
 no_place names name None at none = refl
 no_place names name (Some k) at none =
     let (within, pass, before) = position-Some (λ other. bytes_eq other name) names k name at in
@@ -41,7 +45,9 @@ some_is_not : {A : Type 0} (a : A) → ◌≡◌ {A = Option A} (Some a) None �
 some_is_not a same = cc
 
 -- the brick of a name, as a number
-pub number_of_name : (v : VolumeInfo) (name : List ℕ) (o : Option BrickNo) → IsVolume v → IfSome o (λ b. slice_get v.names b.0 ≡ Some name)
+pub number_of_name :
+    (v : VolumeInfo) (name : List ℕ) (o : Option BrickNo) → IsVolume v
+    → IfSome o (λ b. slice_get v.names b.0 ≡ Some name)
     → (IsNone o ↔ ¬ (Contains v.names name)) → option_map (λ b. b.0) o ≡ position (λ other. bytes_eq other name) v.names
 number_of_name v name None good some none =
     sym (no_place v.names name (position (λ other. bytes_eq other name) v.names) refl (none.0 refl))
@@ -70,20 +76,26 @@ without_zero-name name good =
     true≢false (sym each ∙ ap is_brick_byte zero)))
 
 -- a value leads to its brick
-pub linked_brick-written : (v : VolumeInfo) (b : ℕ) → IsVolume v → b < length v.names → linked_brick v.names (linkto_value v.names b) ≡ Some b
+pub linked_brick-written :
+    (v : VolumeInfo) (b : ℕ) → IsVolume v → b < length v.names
+    → linked_brick v.names (linkto_value v.names b) ≡ Some b
 linked_brick-written v b good inside =
     let at : slice_get v.names b ≡ Some (get_or v.names b []) = slice_get-get_or v.names b [] inside in
     let name : without_zero (linkto_value v.names b) ≡ get_or v.names b [] = ap (λ (o : Option (List ℕ)). without_zero (unwrap_or o [] ++ 0 ∷ [])) at ∙ without_zero-linkto (get_or v.names b []) in
     ap (λ (n : List ℕ). position (λ other. bytes_eq other n) v.names) name ∙ place_of_name v b (get_or v.names b []) good at
 
 -- and so does the name alone
-pub linked_brick-name : (v : VolumeInfo) (b : ℕ) (name : List ℕ) → IsVolume v → slice_get v.names b ≡ Some name → linked_brick v.names name ≡ Some b
+pub linked_brick-name :
+    (v : VolumeInfo) (b : ℕ) (name : List ℕ) → IsVolume v → slice_get v.names b ≡ Some name
+    → linked_brick v.names name ≡ Some b
 linked_brick-name v b name good at =
     let fit : is_brick_name name ≡ true = subst (λ (n : List ℕ). is_brick_name n ≡ true) (get_or_from_slice_get v.names b name [] at) (good.named b [] (slice_get_within v.names b name at)) in
     ap (λ (n : List ℕ). position (λ other. bytes_eq other n) v.names) (without_zero-name name fit) ∙ place_of_name v b name good at
 
 -- a value has at most 65 bytes
-pub linkto_value-short : (v : VolumeInfo) (b : ℕ) → IsVolume v → b < length v.names → length (linkto_value v.names b) ≤ 65
+pub linkto_value-short :
+    (v : VolumeInfo) (b : ℕ) → IsVolume v → b < length v.names
+    → length (linkto_value v.names b) ≤ 65
 linkto_value-short v b good inside =
     let name = get_or v.names b [] in
     let parts = and_parts (nat_lt 0 (length name) && nat_le (length name) 64) (list_all is_brick_byte name) (good.named b [] inside) in
@@ -112,7 +124,9 @@ replay_names_at (suc count) b h =
     (cases_lt b count)
 
 -- a value names the first brick whose name it is, and none where it is no brick's
-pub replay_linked : (count b : ℕ) (value : List ℕ) → b < count → bytes_eq (replay_name b) (without_zero value) ≡ true
+pub replay_linked :
+    (count b : ℕ) (value : List ℕ) → b < count
+    → bytes_eq (replay_name b) (without_zero value) ≡ true
     → ((k : ℕ) → k < b → bytes_eq (replay_name k) (without_zero value) ≡ false) → linked_brick (replay_names count) value ≡ Some b
 replay_linked count b value h pass fails =
     let size = length-replay_names count in
@@ -128,7 +142,9 @@ replay_unlinked count all value enough fails =
     (λ k l. ap (λ (name : List ℕ). bytes_eq name (without_zero value)) (replay_names_at count k (omega arith)) ∙ fails k (omega arith))
 
 -- one brick more whose name it is not
-pub fails_more : (name : List ℕ) (b : ℕ) → ((k : ℕ) → k < b → bytes_eq (replay_name k) name ≡ false) → bytes_eq (replay_name b) name ≡ false
+pub fails_more :
+    (name : List ℕ) (b : ℕ) → ((k : ℕ) → k < b → bytes_eq (replay_name k) name ≡ false)
+    → bytes_eq (replay_name b) name ≡ false
     → (k : ℕ) → k < b + 1 → bytes_eq (replay_name k) name ≡ false
 fails_more name b fails here k h = ⊎_elim
     (λ below. fails k below)
@@ -137,7 +153,8 @@ fails_more name b fails here k h = ⊎_elim
 
 -- ---- the value that is written for a brick of a replay
 
-pub replay_value : (count b : ℕ) → b < count → linkto_value (replay_names count) b ≡ replay_name b ++ 0 ∷ []
+pub replay_value :
+    (count b : ℕ) → b < count → linkto_value (replay_names count) b ≡ replay_name b ++ 0 ∷ []
 replay_value count b h =
     let size = length-replay_names count in
     ap (λ (o : Option (List ℕ)). unwrap_or o [] ++ 0 ∷ []) (slice_get-get_or (replay_names count) b [] (omega arith))

@@ -10,13 +10,18 @@ use Rattle.dht_types.specs.declared.identifiers.Gfid.{Gfid}
 use Rattle.dht_types.specs.Volume.{HasWeight}
 use Rattle.dht_xattr.specs.Plan.{heavy_from, turn, rotated, order}
 
-heavy_within : (b : ℕ) (ws : List ℕ) (k d : ℕ) → k < length (heavy_from b ws) → (b ≤ get_or (heavy_from b ws) k d) × (get_or (heavy_from b ws) k d < b + length ws)
+heavy_within :
+    (b : ℕ) (ws : List ℕ) (k d : ℕ) → k < length (heavy_from b ws)
+    → (b ≤ get_or (heavy_from b ws) k d) × (get_or (heavy_from b ws) k d < b + length ws)
 heavy_within b [] k d h = absurd (omega arith)
 heavy_within b (zero ∷ ws) k d h = let (low, high) = heavy_within (suc b) ws k d h in (omega arith, omega arith)
 heavy_within b (suc w ∷ ws) zero d h = (omega arith, omega arith)
 heavy_within b (suc w ∷ ws) (suc k) d h = let (low, high) = heavy_within (suc b) ws k d (omega arith) in (omega arith, omega arith)
 
-heavy_weighs : (f : ℕ → ℕ) (b : ℕ) (ws : List ℕ) (k d : ℕ) → ((i : ℕ) → i < length ws → f (b + i) ≡ slice_index ws i) → k < length (heavy_from b ws) → 0 < f (get_or (heavy_from b ws) k d)
+heavy_weighs :
+    (f : ℕ → ℕ) (b : ℕ) (ws : List ℕ) (k d : ℕ)
+    → ((i : ℕ) → i < length ws → f (b + i) ≡ slice_index ws i) → k < length (heavy_from b ws)
+    → 0 < f (get_or (heavy_from b ws) k d)
 heavy_weighs f b [] k d same h = absurd (omega arith)
 heavy_weighs f b (zero ∷ ws) k d same h =
     heavy_weighs f (suc b) ws k d (λ i l. let place : suc b + i ≡ b + suc i = omega arith in ap f place ∙ same (suc i) (omega arith)) h
@@ -25,21 +30,27 @@ heavy_weighs f b (suc w ∷ ws) zero d same h =
 heavy_weighs f b (suc w ∷ ws) (suc k) d same h =
     heavy_weighs f (suc b) ws k d (λ i l. let place : suc b + i ≡ b + suc i = omega arith in ap f place ∙ same (suc i) (omega arith)) (omega arith)
 
-heavy_rising : (b : ℕ) (ws : List ℕ) (i j d : ℕ) → i < j → j < length (heavy_from b ws) → get_or (heavy_from b ws) i d < get_or (heavy_from b ws) j d
+heavy_rising :
+    (b : ℕ) (ws : List ℕ) (i j d : ℕ) → i < j → j < length (heavy_from b ws)
+    → get_or (heavy_from b ws) i d < get_or (heavy_from b ws) j d
 heavy_rising b [] i j d before h = absurd (omega arith)
 heavy_rising b (zero ∷ ws) i j d before h = heavy_rising (suc b) ws i j d before h
 heavy_rising b (suc w ∷ ws) i zero d before h = absurd (omega arith)
 heavy_rising b (suc w ∷ ws) zero (suc j) d before h = let (low, high) = heavy_within (suc b) ws j d (omega arith) in omega arith
 heavy_rising b (suc w ∷ ws) (suc i) (suc j) d before h = heavy_rising (suc b) ws i j d (omega arith) (omega arith)
 
-heavy_some : (b : ℕ) (ws : List ℕ) (k d : ℕ) → k < length ws → 0 < get_or ws k d → 0 < length (heavy_from b ws)
+heavy_some :
+    (b : ℕ) (ws : List ℕ) (k d : ℕ) → k < length ws → 0 < get_or ws k d
+    → 0 < length (heavy_from b ws)
 heavy_some b [] k d h positive = absurd (omega arith)
 heavy_some b (zero ∷ ws) zero d h positive = absurd (omega arith)
 heavy_some b (zero ∷ ws) (suc k) d h positive = heavy_some (suc b) ws k d (omega arith) positive
 heavy_some b (suc w ∷ ws) k d h positive = omega arith
 
 -- all the weight is theirs
-heavy_sum : (f : ℕ → ℕ) (b : ℕ) (ws : List ℕ) → ((k : ℕ) → k < length ws → f (b + k) ≡ slice_index ws k) → sum_by f (heavy_from b ws) ≡ sum ws
+heavy_sum :
+    (f : ℕ → ℕ) (b : ℕ) (ws : List ℕ) → ((k : ℕ) → k < length ws → f (b + k) ≡ slice_index ws k)
+    → sum_by f (heavy_from b ws) ≡ sum ws
 heavy_sum f b [] same = refl
 heavy_sum f b (zero ∷ ws) same =
     let moved : (k : ℕ) → k < length ws → f (suc b + k) ≡ slice_index ws k =
@@ -59,7 +70,8 @@ heavy_sum f b (suc w ∷ ws) same =
 pub heavy_positive : (ws : List ℕ) → HasWeight ws → 0 < length (heavy_from 0 ws)
 heavy_positive ws (k, w, within, at, positive) = heavy_some 0 ws k w within (omega arith)
 
-pub length-rotated : (n : ℕ) (xs : List ℕ) → (0 < length xs → n ≤ length xs) → length (rotated n xs) ≡ length xs
+pub length-rotated :
+    (n : ℕ) (xs : List ℕ) → (0 < length xs → n ≤ length xs) → length (rotated n xs) ≡ length xs
 length-rotated n xs fits =
     let whole = length-append (drop n xs) (take n xs) in
     let back = length-drop n xs in
@@ -67,12 +79,16 @@ length-rotated n xs fits =
     ⊎_elim (λ some. let h = fits some in omega arith) (λ none. omega arith) (cases_lt 0 (length xs))
 
 -- an element before the seam, and one behind it
-rotated_before : (n : ℕ) (xs : List ℕ) (k d : ℕ) → n + k < length xs → get_or (rotated n xs) k d ≡ get_or xs (n + k) d
+rotated_before :
+    (n : ℕ) (xs : List ℕ) (k d : ℕ) → n + k < length xs
+    → get_or (rotated n xs) k d ≡ get_or xs (n + k) d
 rotated_before n xs k d h =
     let back = length-drop n xs in
     get_or_append_left (drop n xs) (take n xs) d k (omega arith) ∙ get_or-drop n xs k d
 
-rotated_behind : (n : ℕ) (xs : List ℕ) (k d : ℕ) → n ≤ length xs → length xs ≤ n + k → k < length xs → get_or (rotated n xs) k d ≡ get_or xs (k - (length xs - n)) d
+rotated_behind :
+    (n : ℕ) (xs : List ℕ) (k d : ℕ) → n ≤ length xs → length xs ≤ n + k → k < length xs
+    → get_or (rotated n xs) k d ≡ get_or xs (k - (length xs - n)) d
 rotated_behind n xs k d fits from h =
     get_or-append_right (drop n xs) (take n xs) (length xs - n) k d (length-drop n xs) (omega arith)
     ∙ get_or-take n xs (k - (length xs - n)) d (omega arith)
@@ -81,14 +97,18 @@ rotated_behind n xs k d fits from h =
 seam : ℕ → List ℕ → ℕ → ℕ
 seam n xs k = if nat_lt (n + k) (length xs) then n + k else k - (length xs - n)
 
-seam_is : (n : ℕ) (xs : List ℕ) (k d : ℕ) → n ≤ length xs → k < length xs → (seam n xs k < length xs) × (get_or (rotated n xs) k d ≡ get_or xs (seam n xs k) d)
+seam_is :
+    (n : ℕ) (xs : List ℕ) (k d : ℕ) → n ≤ length xs → k < length xs
+    → (seam n xs k < length xs) × (get_or (rotated n xs) k d ≡ get_or xs (seam n xs k) d)
 unfolding seam
 seam_is n xs k d fits h = go (nat_lt (n + k) (length xs)) refl where
   go : (t : Bool) → nat_lt (n + k) (length xs) ≡ t → ((if t then n + k else k - (length xs - n)) < length xs) × (get_or (rotated n xs) k d ≡ get_or xs (if t then n + k else k - (length xs - n)) d)
   go true e = let below : n + k < length xs = grind (arith, nat_tests, e) in (below, rotated_before n xs k d below)
   go false e = let from : length xs ≤ n + k = grind (arith, nat_tests, e) in (omega arith, rotated_behind n xs k d fits from h)
 
-seam_apart : (n : ℕ) (xs : List ℕ) (i j : ℕ) → n ≤ length xs → i < length xs → j < length xs → seam n xs i ≡ seam n xs j → i ≡ j
+seam_apart :
+    (n : ℕ) (xs : List ℕ) (i j : ℕ) → n ≤ length xs → i < length xs → j < length xs
+    → seam n xs i ≡ seam n xs j → i ≡ j
 unfolding seam
 seam_apart n xs i j fits hi hj same = go (nat_lt (n + i) (length xs)) (nat_lt (n + j) (length xs)) refl refl same where
   go : (s t : Bool) → nat_lt (n + i) (length xs) ≡ s → nat_lt (n + j) (length xs) ≡ t → (if s then n + i else i - (length xs - n)) ≡ (if t then n + j else j - (length xs - n)) → i ≡ j
@@ -107,7 +127,8 @@ heavy_apart b ws i j d hi hj same = ⊎_elim
     (λ from. ⊎_elim (λ above. let up = heavy_rising b ws j i d above hi in absurd (omega arith)) (λ under. omega arith) (cases_lt j i))
     (cases_lt i j)
 
-rotated_apart : (n : ℕ) (xs : List ℕ) → (0 < length xs → n ≤ length xs) → AreApart xs → AreApart (rotated n xs)
+rotated_apart :
+    (n : ℕ) (xs : List ℕ) → (0 < length xs → n ≤ length xs) → AreApart xs → AreApart (rotated n xs)
 rotated_apart n xs fits apart i j d hi hj same =
     let size = length-rotated n xs fits in
     let h : n ≤ length xs = fits (omega arith) in
@@ -123,7 +144,9 @@ unfolding order
 order_apart ws dir =
     rotated_apart (turn dir (length (heavy_from 0 ws))) (heavy_from 0 ws) (turn_fits dir (length (heavy_from 0 ws))) (heavy_apart 0 ws)
 
-pub order_within : (ws : List ℕ) (dir : Gfid) (k d : ℕ) → k < length (order ws dir) → get_or (order ws dir) k d < length ws
+pub order_within :
+    (ws : List ℕ) (dir : Gfid) (k d : ℕ) → k < length (order ws dir)
+    → get_or (order ws dir) k d < length ws
 unfolding order
 order_within ws dir k d h =
     let bricks = heavy_from 0 ws in
@@ -134,7 +157,9 @@ order_within ws dir k d h =
     omega arith
 
 -- each brick of the order has weight
-pub order_weighs : (ws : List ℕ) (dir : Gfid) (k d : ℕ) → k < length (order ws dir) → 0 < slice_index ws (get_or (order ws dir) k d)
+pub order_weighs :
+    (ws : List ℕ) (dir : Gfid) (k d : ℕ) → k < length (order ws dir)
+    → 0 < slice_index ws (get_or (order ws dir) k d)
 unfolding order
 order_weighs ws dir k d h =
     let bricks = heavy_from 0 ws in

@@ -14,7 +14,9 @@ heavy_none b [] w same = ap (λ (x : ℕ). heavy_from b (x ∷ [])) same
 heavy_none b (zero ∷ ws) w same = heavy_none (suc b) ws w same
 heavy_none b (suc v ∷ ws) w same = ap (λ (rest : List ℕ). b ∷ rest) (heavy_none (suc b) ws w same)
 
-heavy_one : (b : ℕ) (ws : List ℕ) (w : ℕ) → heavy_from b (ws ++ suc w ∷ []) ≡ heavy_from b ws ++ (b + length ws) ∷ []
+heavy_one :
+    (b : ℕ) (ws : List ℕ) (w : ℕ)
+    → heavy_from b (ws ++ suc w ∷ []) ≡ heavy_from b ws ++ (b + length ws) ∷ []
 heavy_one b [] w = let place : b ≡ b + 0 = omega arith in ap (λ (x : ℕ). x ∷ []) place
 heavy_one b (zero ∷ ws) w =
     let place : suc b + length ws ≡ b + suc (length ws) = omega arith in
@@ -23,15 +25,21 @@ heavy_one b (suc v ∷ ws) w =
     let place : suc b + length ws ≡ b + suc (length ws) = omega arith in
     ap (λ (rest : List ℕ). b ∷ rest) (heavy_one (suc b) ws w ∙ ap (λ (x : ℕ). heavy_from (suc b) ws ++ x ∷ []) place)
 
-heavy_some : (b : ℕ) (ws : List ℕ) (w : ℕ) → 0 < w → heavy_from b (ws ++ w ∷ []) ≡ heavy_from b ws ++ (b + length ws) ∷ []
+heavy_some :
+    (b : ℕ) (ws : List ℕ) (w : ℕ) → 0 < w
+    → heavy_from b (ws ++ w ∷ []) ≡ heavy_from b ws ++ (b + length ws) ∷ []
 heavy_some b ws zero positive = absurd (omega arith)
 heavy_some b ws (suc w) positive = heavy_one b ws w
 
 -- the step of a loop over all weights
-pub heavy_more_no : (ws : List ℕ) (k : ℕ) → k < length ws → slice_index ws k ≡ 0 → heavy_from 0 (take (k + 1) ws) ≡ heavy_from 0 (take k ws)
+pub heavy_more_no :
+    (ws : List ℕ) (k : ℕ) → k < length ws → slice_index ws k ≡ 0
+    → heavy_from 0 (take (k + 1) ws) ≡ heavy_from 0 (take k ws)
 heavy_more_no ws k h none = ap (heavy_from 0) (take_more ws k 0 h) ∙ heavy_none 0 (take k ws) (slice_index ws k) none
 
-pub heavy_more_yes : (ws bricks : List ℕ) (k n : ℕ) → k < length ws → n < length bricks → 0 < slice_index ws k → take n bricks ≡ heavy_from 0 (take k ws)
+pub heavy_more_yes :
+    (ws bricks : List ℕ) (k n : ℕ) → k < length ws → n < length bricks → 0 < slice_index ws k
+    → take n bricks ≡ heavy_from 0 (take k ws)
     → take (n + 1) (set bricks n k) ≡ heavy_from 0 (take (k + 1) ws)
 heavy_more_yes ws bricks k n h room positive so_far =
     let size = length-take-le k ws (omega arith) in
@@ -43,13 +51,16 @@ heavy_more_yes ws bricks k n h room positive so_far =
     ∙ ap (heavy_from 0) (sym (take_more ws k 0 h))
 
 -- weights of 16 bits, of 32 bricks at most, are below 2 ^ 21 together
-pub sum_few : (ws : List ℕ) → ((k : ℕ) → slice_index ws k < 65536) → length ws ≤ 32 → sum ws ≤ 2097120
+pub sum_few :
+    (ws : List ℕ) → ((k : ℕ) → slice_index ws k < 65536) → length ws ≤ 32 → sum ws ≤ 2097120
 sum_few ws each few =
     let most = sum_by-le (λ x. x) 65535 ws (λ k d h. let same = get_or_default ws k d 0 h in let small = each k in omega arith) in
     omega arith
 
 -- a prefix of the bricks is turned
-pub order_is : (ws bricks turned_bricks : List ℕ) (dir : Gfid) (n : ℕ) → n ≤ length bricks → 0 < n → take n bricks ≡ heavy_from 0 ws
+pub order_is :
+    (ws bricks turned_bricks : List ℕ) (dir : Gfid) (n : ℕ) → n ≤ length bricks → 0 < n
+    → take n bricks ≡ heavy_from 0 ws
     → turned_bricks ≡ rotated (turn dir n) (take n bricks) → take n (turned_bricks ++ drop n bricks) ≡ order ws dir
 unfolding order
 order_is ws bricks turned_bricks dir n few positive heavy turned =
@@ -67,7 +78,9 @@ rotated_none zero = refl
 rotated_none (suc n) = refl
 
 -- where no brick has weight, none has a place in the order
-pub order_none : (ws bricks : List ℕ) (dir : Gfid) (n : ℕ) → n ≤ 0 → take n bricks ≡ heavy_from 0 ws → take n bricks ≡ order ws dir
+pub order_none :
+    (ws bricks : List ℕ) (dir : Gfid) (n : ℕ) → n ≤ 0 → take n bricks ≡ heavy_from 0 ws
+    → take n bricks ≡ order ws dir
 unfolding order
 order_none ws bricks dir zero none heavy =
     sym (rotated_none (turn dir 0)) ∙ ap (λ (bs : List ℕ). rotated (turn dir (length bs)) bs) heavy

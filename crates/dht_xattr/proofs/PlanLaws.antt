@@ -23,7 +23,9 @@ length_ranges : (ws os : List ℕ) (b n : ℕ) → length (ranges_from ws os b n
 length_ranges ws os b zero = refl
 length_ranges ws os b (suc n) = let rest = length_ranges ws os (suc b) n in omega arith
 
-range_in : (ws os : List ℕ) (b n k : ℕ) (d : Option Range) → k < n → get_or (ranges_from ws os b n) k d ≡ dealt_range ws os (position (λ c. c == (b + k)) os)
+range_in :
+    (ws os : List ℕ) (b n k : ℕ) (d : Option Range) → k < n
+    → get_or (ranges_from ws os b n) k d ≡ dealt_range ws os (position (λ c. c == (b + k)) os)
 range_in ws os b zero k d h = absurd (omega arith)
 range_in ws os b (suc n) zero d h =
     let place : b ≡ b + 0 = omega arith in ap (λ (m : ℕ). dealt_range ws os (position (λ c. c == m) os)) place
@@ -35,7 +37,8 @@ range_in ws os b (suc n) (suc k) d h =
 one_fits : (w m s x a b : ℕ) → w * s ≤ m * x → w * a ≤ m * b → w * (s + a) ≤ m * (x + b)
 one_fits w m s x a b one rest = omega arith
 
-shares_fit : (ws xs : List ℕ) → sum ws * sum_by (share ws) xs ≤ 4294967295 * sum_by (slice_index ws) xs
+shares_fit :
+    (ws xs : List ℕ) → sum ws * sum_by (share ws) xs ≤ 4294967295 * sum_by (slice_index ws) xs
 shares_fit ws [] = omega arith
 shares_fit ws (x ∷ xs) =
     rw (sum_by-cons (share ws) x xs, sum_by-cons (slice_index ws) x xs)
@@ -46,7 +49,8 @@ pub sum_positive : (ws : List ℕ) → HasWeight ws → 0 < sum ws
 sum_positive ws (k, w, within, at, positive) = let part = sum_by_more_le (λ x. x) ws k w within in omega arith
 
 -- each place starts at a hash
-pub start_below : (ws : List ℕ) (dir : Gfid) (p : ℕ) → HasWeight ws → start ws (order ws dir) p ≤ 4294967295
+pub start_below :
+    (ws : List ℕ) (dir : Gfid) (p : ℕ) → HasWeight ws → start ws (order ws dir) p ≤ 4294967295
 start_below ws dir p heavy =
     let some = sum_positive ws heavy in
     let part = shares_fit ws (take p (order ws dir)) in
@@ -55,7 +59,9 @@ start_below ws dir p heavy =
     let most : 4294967295 * sum_by (slice_index ws) (take p (order ws dir)) ≤ 4294967295 * sum ws = mul-le-mul_left 4294967295 (omega arith) in
     le_of_mul-le-mul_left {k = sum ws} (omega arith) some
 
-pub start_more : (ws os : List ℕ) (p : ℕ) → p < length os → start ws os (p + 1) ≡ start ws os p + share ws (slice_index os p)
+pub start_more :
+    (ws os : List ℕ) (p : ℕ) → p < length os
+    → start ws os (p + 1) ≡ start ws os p + share ws (slice_index os p)
 start_more ws os p h = sum_by_more (share ws) os p 0 h
 
 start_rising : (ws os : List ℕ) (p q : ℕ) → p ≤ q → start ws os p ≤ start ws os q
@@ -84,7 +90,9 @@ pub record IsAt (ws os : List ℕ) (h p : ℕ) : Type 0 where
   pub from : start ws os p ≤ h
   pub to : p + 1 < length os → h < start ws os (p + 1)
 
-place_has : (ws os : List ℕ) (h p : ℕ) → p < length os → contains (range_in_turn ws os p) h ≡ true → IsAt ws os h p
+place_has :
+    (ws os : List ℕ) (h p : ℕ) → p < length os → contains (range_in_turn ws os p) h ≡ true
+    → IsAt ws os h p
 place_has ws os h p place t = ⊎_elim
     (λ last.
     let whole = ap (λ (o : Option Range). contains o h) (cond-true (p + 1 == length os) (rest_from (start ws os p)) (run_of (start ws os p) (share ws (slice_index os p))) last) in
@@ -98,7 +106,9 @@ place_has ws os h p place t = ⊎_elim
     record { place = place; from = low; to = λ more. omega arith })
     (cases_Bool (p + 1 == length os))
 
-has_place : (ws os : List ℕ) (h p : ℕ) → h < 2 ^ 32 → IsAt ws os h p → contains (range_in_turn ws os p) h ≡ true
+has_place :
+    (ws os : List ℕ) (h p : ℕ) → h < 2 ^ 32 → IsAt ws os h p
+    → contains (range_in_turn ws os p) h ≡ true
 has_place ws os h p below at =
     let place = at.place in
     let low = at.from in
@@ -129,7 +139,8 @@ at_one ws os h p q at_p at_q =
     (cases_lt p q)
 
 -- and at one at least
-found_before : (ws os : List ℕ) (h k : ℕ) → k < length os → h < start ws os (k + 1) → (p : ℕ) × IsAt ws os h p
+found_before :
+    (ws os : List ℕ) (h k : ℕ) → k < length os → h < start ws os (k + 1) → (p : ℕ) × IsAt ws os h p
 found_before ws os h zero inside high = (zero, record { place = inside; from = omega arith; to = λ more. high })
 found_before ws os h (suc k) inside high = ⊎_elim
     (λ below. found_before ws os h k (omega arith) below)
@@ -150,7 +161,9 @@ found_some ws os h zero size some = absurd (omega arith)
 found_some ws os h (suc n) size some = found ws os h n size
 
 -- the place of an element of a list in which none comes twice
-pub place_is : (os : List ℕ) (p : ℕ) → AreApart os → p < length os → position (λ c. c == slice_index os p) os ≡ Some p
+pub place_is :
+    (os : List ℕ) (p : ℕ) → AreApart os → p < length os
+    → position (λ c. c == slice_index os p) os ≡ Some p
 place_is os p apart h =
     let test = λ (c : ℕ). c == slice_index os p in
     let (early, at) = first_place test os p 0 h (eq-eqb (slice_index os p) (slice_index os p) refl) in
@@ -159,7 +172,9 @@ place_is os p apart h =
     at ∙ ap Some same
 
 -- a hash that is in the range of a brick is at the brick's place
-brick_has : (ws os : List ℕ) (h b : ℕ) (o : Option ℕ) → position (λ c. c == b) os ≡ o → contains (dealt_range ws os o) h ≡ true → (p : ℕ) × (slice_index os p ≡ b) × IsAt ws os h p
+brick_has :
+    (ws os : List ℕ) (h b : ℕ) (o : Option ℕ) → position (λ c. c == b) os ≡ o
+    → contains (dealt_range ws os o) h ≡ true → (p : ℕ) × (slice_index os p ≡ b) × IsAt ws os h p
 brick_has ws os h b None at t = absurd (true≢false (sym t))
 brick_has ws os h b (Some p) at t =
     let (within, pass, before) = position-Some (λ c. c == b) os p 0 at in
@@ -170,14 +185,18 @@ pub planned_length : (ws : List ℕ) (dir : Gfid) → length (planned ws dir) �
 unfolding planned
 planned_length ws dir = length_ranges ws (order ws dir) 0 (length ws)
 
-pub planned_at : (ws : List ℕ) (dir : Gfid) (b : ℕ) (d : Option Range) → b < length ws → get_or (planned ws dir) b d ≡ dealt_range ws (order ws dir) (position (λ c. c == b) (order ws dir))
+pub planned_at :
+    (ws : List ℕ) (dir : Gfid) (b : ℕ) (d : Option Range) → b < length ws
+    → get_or (planned ws dir) b d
+    ≡ dealt_range ws (order ws dir) (position (λ c. c == b) (order ws dir))
 unfolding planned
 planned_at ws dir b d h =
     let same : 0 + b ≡ b = omega arith in
     range_in ws (order ws dir) 0 (length ws) b d h ∙ ap (λ (m : ℕ). dealt_range ws (order ws dir) (position (λ c. c == m) (order ws dir))) same
 
 -- each hash is in exactly one range of the plan
-pub planned_once : (ws : List ℕ) (dir : Gfid) (h : ℕ) → HasWeight ws → h < 2 ^ 32 → covers (planned ws dir) h ≡ 1
+pub planned_once :
+    (ws : List ℕ) (dir : Gfid) (h : ℕ) → HasWeight ws → h < 2 ^ 32 → covers (planned ws dir) h ≡ 1
 planned_once ws dir h heavy below =
     let os = order ws dir in
     let (p, at) = found_some ws os h (length os) refl (order_some ws dir heavy) in
@@ -195,7 +214,9 @@ planned_once ws dir h heavy below =
     sym same ∙ ap (slice_index os) (at_one ws os h q p at_q at))
 
 -- each hash has a holder
-pub planned_holder : (ws : List ℕ) (dir : Gfid) (h : ℕ) → HasWeight ws → h < 2 ^ 32 → (b : ℕ) × (b < length ws) × (holder (planned ws dir) h ≡ Some b)
+pub planned_holder :
+    (ws : List ℕ) (dir : Gfid) (h : ℕ) → HasWeight ws → h < 2 ^ 32
+    → (b : ℕ) × (b < length ws) × (holder (planned ws dir) h ≡ Some b)
 planned_holder ws dir h heavy below =
     let once = planned_once ws dir h heavy below in
     let size = planned_length ws dir in
@@ -206,7 +227,9 @@ run_valid : (first n : ℕ) → first + n ≤ 2 ^ 32 → IfSome (run_of first n)
 run_valid first zero h = tt
 run_valid first (suc m) h = record { commit = refl; range = record { committed = omega arith; ordered = omega arith; below = omega arith } }
 
-place_valid : (ws : List ℕ) (dir : Gfid) (p : ℕ) → HasWeight ws → p < length (order ws dir) → IfSome (range_in_turn ws (order ws dir) p) IsPlanned
+place_valid :
+    (ws : List ℕ) (dir : Gfid) (p : ℕ) → HasWeight ws → p < length (order ws dir)
+    → IfSome (range_in_turn ws (order ws dir) p) IsPlanned
 place_valid ws dir p heavy place =
     let os = order ws dir in
     let first = start ws os p in
@@ -218,18 +241,24 @@ place_valid ws dir p heavy place =
     (λ last. record { commit = refl; range = record { committed = omega arith; ordered = here; below = omega arith } })
     (λ inner. run_valid first count (omega arith))
 
-range_valid : (ws : List ℕ) (dir : Gfid) (b : ℕ) (o : Option ℕ) → HasWeight ws → position (λ c. c == b) (order ws dir) ≡ o → IfSome (dealt_range ws (order ws dir) o) IsPlanned
+range_valid :
+    (ws : List ℕ) (dir : Gfid) (b : ℕ) (o : Option ℕ) → HasWeight ws
+    → position (λ c. c == b) (order ws dir) ≡ o → IfSome (dealt_range ws (order ws dir) o) IsPlanned
 range_valid ws dir b None heavy at = tt
 range_valid ws dir b (Some p) heavy at = place_valid ws dir p heavy (position-Some (λ c. c == b) (order ws dir) p 0 at).0
 
 -- the ranges of the plan are not empty, and no run has settled them
-pub planned_valid : (ws : List ℕ) (dir : Gfid) → HasWeight ws → All (λ range. IfSome range IsPlanned) (planned ws dir)
+pub planned_valid :
+    (ws : List ℕ) (dir : Gfid) → HasWeight ws
+    → All (λ range. IfSome range IsPlanned) (planned ws dir)
 planned_valid ws dir heavy k d h =
     let size = planned_length ws dir in
     subst (λ (o : Option Range). IfSome o IsPlanned) (sym (planned_at ws dir k d (omega arith)))
     (range_valid ws dir k (position (λ c. c == k) (order ws dir)) heavy refl)
 
-light_none : (ws : List ℕ) (dir : Gfid) (b : ℕ) (o : Option ℕ) → slice_index ws b ≡ 0 → position (λ c. c == b) (order ws dir) ≡ o → dealt_range ws (order ws dir) o ≡ None
+light_none :
+    (ws : List ℕ) (dir : Gfid) (b : ℕ) (o : Option ℕ) → slice_index ws b ≡ 0
+    → position (λ c. c == b) (order ws dir) ≡ o → dealt_range ws (order ws dir) o ≡ None
 light_none ws dir b None weightless at = refl
 light_none ws dir b (Some p) weightless at =
     let (within, pass, before) = position-Some (λ c. c == b) (order ws dir) p 0 at in
@@ -238,7 +267,9 @@ light_none ws dir b (Some p) weightless at =
     absurd (omega arith)
 
 -- a brick of weight 0 has no range
-pub planned_light : (ws : List ℕ) (dir : Gfid) (b : ℕ) → b < length ws → slice_index ws b ≡ 0 → slice_get (planned ws dir) b ≡ Some None
+pub planned_light :
+    (ws : List ℕ) (dir : Gfid) (b : ℕ) → b < length ws → slice_index ws b ≡ 0
+    → slice_get (planned ws dir) b ≡ Some None
 planned_light ws dir b inside weightless =
     let size = planned_length ws dir in
     slice_get-get_or (planned ws dir) b None (omega arith)
@@ -248,7 +279,8 @@ range_read : (o : Option Range) → IfSome o IsPlanned → option_and_then decod
 range_read None good = refl
 range_read (Some r) good = decoded_encoded r good.range.committed good.range.ordered good.range.below
 
-dealt_read : (ws : List ℕ) (dir : Gfid) (b : ℕ) (o : Option ℕ) → position (λ c. c == b) (order ws dir) ≡ o
+dealt_read :
+    (ws : List ℕ) (dir : Gfid) (b : ℕ) (o : Option ℕ) → position (λ c. c == b) (order ws dir) ≡ o
     → option_and_then decoded (value_of (dealt_range ws (order ws dir) o)) ≡ dealt_range ws (order ws dir) o
 dealt_read ws dir b None at = refl
 dealt_read ws dir b (Some p) at =
@@ -256,7 +288,9 @@ dealt_read ws dir b (Some p) at =
     range_read (range_in_turn ws (order ws dir) p) (place_valid ws dir p (order_heavy ws dir p place) place)
 
 -- the attribute of a range of the plan is read as that range
-pub planned_read : (ws : List ℕ) (dir : Gfid) → All (λ range. option_and_then decoded (value_of range) ≡ range) (planned ws dir)
+pub planned_read :
+    (ws : List ℕ) (dir : Gfid)
+    → All (λ range. option_and_then decoded (value_of range) ≡ range) (planned ws dir)
 planned_read ws dir k d h =
     let size = planned_length ws dir in
     subst (λ (o : Option Range). option_and_then decoded (value_of o) ≡ o) (sym (planned_at ws dir k d (omega arith)))

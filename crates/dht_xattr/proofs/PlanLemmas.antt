@@ -28,7 +28,9 @@ AreDealt-none ws os b d h =
     get_or-replicate {A = Option Range} 32 b None d h ∙ sym (none_dealt ws os (position (λ c. c == b) os))
 
 -- one place more changes no other
-other_dealt : (ws os : List ℕ) (p b : ℕ) (o : Option ℕ) → position (λ c. c == b) os ≡ o → b ≢ slice_index os p → dealt ws os p o ≡ dealt ws os (p + 1) o
+other_dealt :
+    (ws os : List ℕ) (p b : ℕ) (o : Option ℕ) → position (λ c. c == b) os ≡ o → b ≢ slice_index os p
+    → dealt ws os p o ≡ dealt ws os (p + 1) o
 other_dealt ws os p b None at differ = refl
 other_dealt ws os p b (Some q) at differ =
     let (within, pass, before) = position-Some (λ c. c == b) os q 0 at in
@@ -38,7 +40,9 @@ other_dealt ws os p b (Some q) at differ =
     (λ from. cond-false (nat_lt q p) _ _ (le-ltb q p from) ∙ sym (cond-false (nat_lt q (p + 1)) (range_in_turn ws os q) None (le-ltb q (p + 1) (omega arith))))
     (cases_lt q p)
 
-pub AreDealt-more : (ws os : List ℕ) (p b : ℕ) (range : Option Range) (ranges : List (Option Range)) → AreApart os → p < length os → slice_index os p ≡ b
+pub AreDealt-more :
+    (ws os : List ℕ) (p b : ℕ) (range : Option Range) (ranges : List (Option Range)) → AreApart os
+    → p < length os → slice_index os p ≡ b
     → range ≡ range_in_turn ws os p → AreDealt ws os p ranges → AreDealt ws os (p + 1) (set ranges b range)
 AreDealt-more ws os p b range ranges apart place brick next so_far k d h =
     let size = length-set ranges b range in
@@ -57,12 +61,16 @@ AreDealt-more ws os p b range ranges apart place brick next so_far k d h =
     (cases_eq k b)
 
 -- in the end each place has its range
-all_dealt : (ws os : List ℕ) (b : ℕ) (o : Option ℕ) → position (λ c. c == b) os ≡ o → dealt ws os (length os) o ≡ dealt_range ws os o
+all_dealt :
+    (ws os : List ℕ) (b : ℕ) (o : Option ℕ) → position (λ c. c == b) os ≡ o
+    → dealt ws os (length os) o ≡ dealt_range ws os o
 all_dealt ws os b None at = refl
 all_dealt ws os b (Some p) at =
     cond-true (nat_lt p (length os)) (range_in_turn ws os p) None (lt-ltb p (length os) (position-Some (λ c. c == b) os p 0 at).0)
 
-pub AreDealt-planned : (ws : List ℕ) (dir : Gfid) (p n : ℕ) (ranges : List (Option Range)) → n ≡ length ws → n ≤ length ranges → p ≡ length (order ws dir)
+pub AreDealt-planned :
+    (ws : List ℕ) (dir : Gfid) (p n : ℕ) (ranges : List (Option Range)) → n ≡ length ws
+    → n ≤ length ranges → p ≡ length (order ws dir)
     → AreDealt ws (order ws dir) p ranges → take n ranges ≡ planned ws dir
 AreDealt-planned ws dir p n ranges bricks room all dealt_so =
     let os = order ws dir in
@@ -76,18 +84,23 @@ AreDealt-planned ws dir p n ranges bricks room all dealt_so =
     ∙ sym (planned_at ws dir k d (omega arith)))
 
 -- how many bricks are in the order
-pub order_size : (os bricks : List ℕ) (n : ℕ) → take n bricks ≡ os → n ≤ length bricks → length os ≡ n
+pub order_size :
+    (os bricks : List ℕ) (n : ℕ) → take n bricks ≡ os → n ≤ length bricks → length os ≡ n
 order_size os bricks n same few = ap length (sym same) ∙ length-take-le n bricks few
 
 -- the brick at a place of the order is one of those that have a weight
-pub placed_within : (ws : List ℕ) (dir : Gfid) (bricks : List ℕ) (n p : ℕ) → take n bricks ≡ order ws dir → n ≤ length bricks → p < n → slice_index bricks p < length ws
+pub placed_within :
+    (ws : List ℕ) (dir : Gfid) (bricks : List ℕ) (n p : ℕ) → take n bricks ≡ order ws dir
+    → n ≤ length bricks → p < n → slice_index bricks p < length ws
 placed_within ws dir bricks n p same few place =
     let size = order_size (order ws dir) bricks n same few in
     let inside = order_within ws dir p 0 (omega arith) in
     let brick = ap (λ (xs : List ℕ). slice_index xs p) (sym same) ∙ get_or-take n bricks p 0 place in
     omega arith
 
-pub placed_weighs : (ws : List ℕ) (dir : Gfid) (bricks : List ℕ) (n p : ℕ) → take n bricks ≡ order ws dir → n ≤ length bricks → p < n → 0 < sum ws
+pub placed_weighs :
+    (ws : List ℕ) (dir : Gfid) (bricks : List ℕ) (n p : ℕ) → take n bricks ≡ order ws dir
+    → n ≤ length bricks → p < n → 0 < sum ws
 placed_weighs ws dir bricks n p same few place =
     let size = order_size (order ws dir) bricks n same few in
     sum_positive ws (order_heavy ws dir p (omega arith))
@@ -101,7 +114,9 @@ pub record Step (ws : List ℕ) (dir : Gfid) (bricks : List ℕ) (n p first coun
   pub next : first + count ≡ start ws (order ws dir) (p + 1)
   pub most : first + count ≤ 4294967295
 
-pub step_at : (ws : List ℕ) (dir : Gfid) (bricks : List ℕ) (n p first count : ℕ) → length ws ≤ 32 → take n bricks ≡ order ws dir → n ≤ length bricks → p < n
+pub step_at :
+    (ws : List ℕ) (dir : Gfid) (bricks : List ℕ) (n p first count : ℕ) → length ws ≤ 32
+    → take n bricks ≡ order ws dir → n ≤ length bricks → p < n
     → first ≡ start ws (order ws dir) p → count ≡ share ws (slice_index bricks p) → Step ws dir bricks n p first count
 step_at ws dir bricks n p first count volume same few place begin part =
     let os = order ws dir in
@@ -116,7 +131,9 @@ step_at ws dir bricks n p first count volume same few place begin part =
     record { size = size; brick = brick; small = omega arith; share = count_is; next = next; most = omega arith }
 
 -- the range that goes to a place is that of the plan
-pub next_range : (ws os : List ℕ) (p n first count : ℕ) (range : Option Range) → length os ≡ n → first ≡ start ws os p → count ≡ share ws (slice_index os p)
+pub next_range :
+    (ws os : List ℕ) (p n first count : ℕ) (range : Option Range) → length os ≡ n
+    → first ≡ start ws os p → count ≡ share ws (slice_index os p)
     → range ≡ (if p + 1 == n then rest_from first else run_of first count) → range ≡ range_in_turn ws os p
 next_range ws os p n first count range size begin part made =
     made

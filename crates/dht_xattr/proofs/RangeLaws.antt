@@ -11,10 +11,14 @@ use Rattle.dht_xattr.specs.Range.{IsRange, word, number, encoded, is_encoded, de
 number_word : (n : ℕ) (rest : List ℕ) → n < 2 ^ 32 → number (word n ++ rest) ≡ n
 number_word n rest h = omega arith
 
-same_range : {c f l : ℕ} {r : Range} → c ≡ r.commit → f ≡ r.first → l ≡ r.last → ◌≡◌ {A = Range} (record { commit = c; first = f; last = l }) r
+same_range :
+    {c f l : ℕ} {r : Range} → c ≡ r.commit → f ≡ r.first → l ≡ r.last
+    → ◌≡◌ {A = Range} (record { commit = c; first = f; last = l }) r
 same_range commit first last = λ i. record { commit = commit i; first = first i; last = last i }
 
-pub decoded_encoded : (r : Range) → r.commit < 2 ^ 32 → r.first ≤ r.last → r.last < 2 ^ 32 → decoded (encoded r) ≡ Some r
+pub decoded_encoded :
+    (r : Range) → r.commit < 2 ^ 32 → r.first ≤ r.last → r.last < 2 ^ 32
+    → decoded (encoded r) ≡ Some r
 decoded_encoded r committed ordered below =
     let commit : number (encoded r) ≡ r.commit = number_word r.commit (word 0 ++ word r.first ++ word r.last) committed in
     let first : number (drop 8 (encoded r)) ≡ r.first = number_word r.first (word r.last) (omega arith) in
@@ -25,10 +29,13 @@ decoded_encoded r committed ordered below =
     ∙ ap Some (same_range commit first last)
 
 -- the first bytes make the word of their number
-bytes_four : {a b c d e f g h : ℕ} → a ≡ e → b ≡ f → c ≡ g → d ≡ h → ◌≡◌ {A = List ℕ} (a ∷ b ∷ c ∷ d ∷ []) (e ∷ f ∷ g ∷ h ∷ [])
+bytes_four :
+    {a b c d e f g h : ℕ} → a ≡ e → b ≡ f → c ≡ g → d ≡ h
+    → ◌≡◌ {A = List ℕ} (a ∷ b ∷ c ∷ d ∷ []) (e ∷ f ∷ g ∷ h ∷ [])
 bytes_four p q r s = λ i. p i ∷ q i ∷ r i ∷ s i ∷ []
 
-word_number : (v : List ℕ) → 4 ≤ length v → ((i : ℕ) → slice_index v i < 256) → take 4 v ≡ word (number v)
+word_number :
+    (v : List ℕ) → 4 ≤ length v → ((i : ℕ) → slice_index v i < 256) → take 4 v ≡ word (number v)
 word_number [] long bytes = absurd (omega arith)
 word_number (a ∷ []) long bytes = absurd (omega arith)
 word_number (a ∷ b ∷ []) long bytes = absurd (omega arith)
@@ -40,7 +47,9 @@ word_number (a ∷ b ∷ c ∷ d ∷ rest) long bytes =
     let fourth : d < 256 = bytes 3 in
     bytes_four (omega arith) (omega arith) (omega arith) (omega arith)
 
-word_prefix : (k : ℕ) (v : List ℕ) → k + 4 ≤ length v → ((i : ℕ) → slice_index v i < 256) → drop k v ≡ word (number (drop k v)) ++ drop (k + 4) v
+word_prefix :
+    (k : ℕ) (v : List ℕ) → k + 4 ≤ length v → ((i : ℕ) → slice_index v i < 256)
+    → drop k v ≡ word (number (drop k v)) ++ drop (k + 4) v
 word_prefix k v long bytes =
     let size = length-drop k v in
     let rest : (i : ℕ) → slice_index (drop k v) i < 256 = λ i. let same = get_or-drop k v i 0 in let byte = bytes (k + i) in omega arith in
@@ -74,7 +83,8 @@ encoded_parts v r good same =
     (ap length same, ap (λ (w : List ℕ). number (drop 4 w)) same, ap (λ (w : List ℕ). number (drop 8 w)) same ∙ first, ap (λ (w : List ℕ). number (drop 12 w)) same ∙ last)
 
 -- a number that is read from a place on
-pub read_number : (k : ℕ) (v : List ℕ) → big_number 4 (take (length v - k) (drop k v)) ≡ number (drop k v)
+pub read_number :
+    (k : ℕ) (v : List ℕ) → big_number 4 (take (length v - k) (drop k v)) ≡ number (drop k v)
 read_number k v =
     let rest : take (length v - k) (drop k v) ≡ drop k v = take_all (length v - k) (drop k v) (omega (arith, length-drop k v)) in
     let same : big_number 4 (drop k v) ≡ number (drop k v) = omega arith in

@@ -55,7 +55,9 @@ dealt_range weights bricks (Some place) = range_in_turn weights bricks place
 -- the ranges of so many bricks, from brick b on
 abbrev pub ranges_from : List ℕ → List ℕ → ℕ → ℕ → List (Option Range)
 ranges_from weights bricks b zero = []
-ranges_from weights bricks b (suc more) = dealt_range weights bricks (position (λ c. c == b) bricks) ∷ ranges_from weights bricks (suc b) more
+ranges_from weights bricks b (suc more) =
+    dealt_range weights bricks (position (λ c. c == b) bricks)
+    ∷ ranges_from weights bricks (suc b) more
 
 -- the plan of a directory: the range of each brick
 unfoldable pub planned : List ℕ → Gfid → List (Option Range)

@@ -15,8 +15,8 @@ fn covers(ranges: &[Option<Range>], hash: u32) -> usize
     ranges.iter().filter(|range| is_in(range, hash)).count()
 }
 
-/// Whether a hash is in none of these ranges. Where there is one, 0 is such a hash, or the one behind
-/// some range.
+/// Whether a hash is in none of these ranges. Where there is one, 0 is such a hash, or the one
+/// behind some range.
 fn has_hole(ranges: &[Option<Range>]) -> bool
     ensures { result ≡ has_hole ranges.now }
 {

@@ -93,8 +93,8 @@ impl Layout {
         &self.places[..usize::from(self.count)]
     }
 
-    /// The attribute of a brick: the value of its range, and none where it has no range. It takes no
-    /// memory.
+    /// The attribute of a brick: the value of its range, and none where it has no range. It takes
+    /// no memory.
     pub fn value(&self, brick: BrickNo) -> Option<LayoutValue>
         ensures { result ≡ value_of (slice_index_or self.now brick.0 None) }
     {

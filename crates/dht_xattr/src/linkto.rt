@@ -47,8 +47,8 @@ fn without_zero(value: &[u8]) -> &[u8]
     value.strip_suffix(b"\0").unwrap_or(value)
 }
 
-/// The brick to which a linkto file of this value leads. There is none where the value, less one zero
-/// byte at its end if it has one, is no name of the volume.
+/// The brick to which a linkto file of this value leads. There is none where the value, less one
+/// zero byte at its end if it has one, is no name of the volume.
 pub fn linkto_brick(volume: &Volume, value: &[u8]) -> Option<BrickNo>
     ensures brick { option_map (λ b. b.0) result ≡ linked_brick volume.now.names value.now }
     ensures some { IfSome result
@@ -85,8 +85,8 @@ pub fn linkto_brick_of(bricks: u16, value: &[u8]) -> Option<BrickNo>
     None
 }
 
-/// A linkto value leads to the brick that it was written for, also where its zero byte was taken off,
-/// and has at most 65 bytes: these are laws for callers, and do nothing.
+/// A linkto value leads to the brick that it was written for, also where its zero byte was taken
+/// off, and has at most 65 bytes: these are laws for callers, and do nothing.
 pub fn a_linkto_leads_to_its_brick()
     ensures written { (v : VolumeInfo) (b : ℕ) → IsVolume v → b < length v.names
         → linked_brick v.names (linkto_value v.names b) ≡ Some b }

@@ -92,8 +92,8 @@ fn run_of(first: u32, count: u32) -> Option<Range>
     })
 }
 
-/// The range of the brick whose turn it is: so many hashes from a first one on, or for the last brick
-/// all that are left.
+/// The range of the brick whose turn it is: so many hashes from a first one on, or for the last
+/// brick all that are left.
 fn range_from(first: u32, count: u32, is_last: bool) -> Option<Range>
     requires { first + count < 2 ^ 32 }
     ensures { result ≡ (if is_last then rest_from first else run_of first count) }
@@ -129,8 +129,8 @@ fn deal(weights: &[u16], dir: Gfid) -> Layout
 }
 
 /// The plan of a directory: how a new directory's hashes are shared among the bricks by their
-/// weights, as by GlusterFS's `dht_selfheal_layout_new_directory`. Each hash is in exactly one range,
-/// and a brick of weight 0 has none.
+/// weights, as by GlusterFS's `dht_selfheal_layout_new_directory`. Each hash is in exactly one
+/// range, and a brick of weight 0 has none.
 pub fn plan(volume: &Volume, dir: Gfid) -> Layout
     ensures planned { result ≡ planned volume.now.weights dir }
     ensures once { (hash : ℕ) → hash < 2 ^ 32 → covers result hash ≡ 1 }
@@ -159,9 +159,9 @@ pub fn planned_value(weights: &Weights, dir: Gfid, brick: BrickNo) -> Option<Lay
     plan_of(weights, dir).value(brick)
 }
 
-/// A plan has a range or none for each brick, and none where its weight is 0; no range of it is empty;
-/// and each hash is in exactly one of them, so that it has a holder. The attribute of a range of a
-/// plan is read as that range. These are laws for callers, and do nothing.
+/// A plan has a range or none for each brick, and none where its weight is 0; no range of it is
+/// empty; and each hash is in exactly one of them, so that it has a holder. The attribute of a
+/// range of a plan is read as that range. These are laws for callers, and do nothing.
 pub fn a_plan_has_each_hash_once()
     ensures length { (weights : List ℕ) (dir : Gfid)
         → length (planned weights dir) ≡ length weights }

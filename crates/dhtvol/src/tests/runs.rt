@@ -47,8 +47,8 @@ dir 1 00000000-0000-0000-0000-000000000001 -\n\
 end\n\
 ";
 
-/// The words of a run with a bar between them, what it reads, its status, how many bricks it leaves,
-/// and what it writes.
+/// The words of a run with a bar between them, what it reads, its status, how many bricks it
+/// leaves, and what it writes.
 type Row = (&'static str, &'static str, u8, usize, &'static str);
 
 const RUNS: [Row; 22] = [

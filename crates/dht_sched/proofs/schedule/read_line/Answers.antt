@@ -2,7 +2,8 @@ use Rattle.std.proofs.Common.{arith}
 use Rattle.dht_sched.proofs.LineLemmas.{read_text, read_malformed, read_only, too_long, short_words}
 use Rattle.dht_sched.proofs.schedule.read_line.Goals as goal
 
-pub returns-then-line-ge-LINE_LIMIT-clause-malformed : goal.returns-then-line-ge-LINE_LIMIT-clause-malformed
+pub returns-then-line-ge-LINE_LIMIT-clause-malformed :
+    goal.returns-then-line-ge-LINE_LIMIT-clause-malformed
 returns-then-line-ge-LINE_LIMIT-clause-malformed c = λ bad. too_long c.args.line.now (omega arith)
 
 pub returns-then-line-ge-LINE_LIMIT-clause-only : goal.returns-then-line-ge-LINE_LIMIT-clause-only

@@ -14,7 +14,10 @@ loop-place-init c = record {
 }
 
 -- what is known of the brick whose turn it is
-step : (c : After-share-count) → Step c.args.weights.now c.args.dir c.order-order.result.bricks c.order-order.result.count c.loop-place.place c.loop-place.first c.share-count.result
+step :
+    (c : After-share-count)
+    → Step c.args.weights.now c.args.dir c.order-order.result.bricks c.order-order.result.count
+    c.loop-place.place c.loop-place.first c.share-count.result
 step c = step_at c.args.weights.now c.args.dir c.order-order.result.bricks c.order-order.result.count c.loop-place.place c.loop-place.first c.share-count.result c.requires c.order-order.ensures.order (omega arith) c.loop-place-test.true c.loop-place.invariant.first c.share-count.ensures
 
 pub share-count-requires-clause-positive : goal.share-count-requires-clause-positive

@@ -13,7 +13,8 @@ returns-then-first-last-clause-some c =
     encoded_decoded value (record { commit = c.read_u32-commit.result; first = c.read_u32-first.result; last = c.read_u32-last.result })
     (omega arith) bytes (omega arith) (omega arith) (omega arith) (omega arith)
 
-pub returns-else-hash_type-eq-HASH_TYPE-clause-none : goal.returns-else-hash_type-eq-HASH_TYPE-clause-none
+pub returns-else-hash_type-eq-HASH_TYPE-clause-none :
+    goal.returns-else-hash_type-eq-HASH_TYPE-clause-none
 returns-else-hash_type-eq-HASH_TYPE-clause-none c = λ r good same.
     let value = c.args.value.now in
     let (size, no_type, at_first, at_last) = encoded_parts value r good same in

@@ -8,7 +8,9 @@ use Rattle.dht_brick.specs.Saving.{slots_restored}
 use Rattle.dht_names.specs.Kept.{slots_in}
 use Rattle.dht_names.proofs.slots.SlotTable.restored.Goals as goal
 
-slots_restored-push : (g : Gfid) (ps : List SavedSlot) (p : SavedSlot) (slots : Slots) → slots_restored g (ps ++ p ∷ []) slots ≡ slots_restored g ps (insert slots (g, p.name) p.slot)
+slots_restored-push :
+    (g : Gfid) (ps : List SavedSlot) (p : SavedSlot) (slots : Slots)
+    → slots_restored g (ps ++ p ∷ []) slots ≡ slots_restored g ps (insert slots (g, p.name) p.slot)
 slots_restored-push g [] p slots = refl
 slots_restored-push g (q ∷ ps) p slots = ap (λ m. insert m (g, q.name) q.slot) (slots_restored-push g ps p slots)
 
