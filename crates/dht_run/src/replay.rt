@@ -82,7 +82,10 @@ pub struct EventOutput {
 
 impl EventOutput {
     /// The output of no event yet.
-    pub fn new(alloc: Global) -> EventOutput {
+    pub fn new(alloc: Global) -> EventOutput
+        ensures lines { result.lines.items ≡ [] }
+        ensures text { result.text.items ≡ [] }
+    {
         EventOutput {
             lines: Vec::new(alloc),
             text: Vec::new(alloc),
